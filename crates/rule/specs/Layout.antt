@@ -1,0 +1,161 @@
+-- The book: one list of cells of a fixed length, read as a day and written back, and the calls on it. Only this file has an offset.
+-- Assumes nothing.
+use Prim.Native.Nat.{ℕ, _+_, _-_, _*_, _%_}
+use mathlib.Core.Bool.{Bool, _&&_}
+use mathlib.Core.List.{List, [], _∷_, _++_, map}
+use lib.ListN.{length, getD}
+use lib.Dec.{ltb, eqb}
+use Rattle.lists.specs.Tests.{pick}
+use Rattle.lists.specs.Tables.{upTo, table, zeros, row, cell}
+use Rattle.lists.specs.Folds.{joined}
+use Rattle.lists.specs.Parts.{grid, over, Part, layAll}
+use Rattle.rule.specs.Value.{Terms}
+use Rattle.rule.specs.Day.{Given, State, Day, baskets, termsOf, givenOf, opened, traded, noticed}
+use Rattle.rule.specs.Run.{Allocation, allocations, ran, matchList, lineList}
+use Rattle.rule.specs.Sound.{sound}
+use Rattle.rule.specs.Calls.{Reply, accepted, answer, openRefusal, tradeRefusal, noticeRefusal, runRefusal, runReply, closeRefusal, tomorrowReceipts, tomorrowPairs}
+
+-- ---- offsets: each is the last plus a size. Rows are as far apart as in the largest day, of 12 participants and 32 issues
+
+-- participants, issues, runs done and trades accepted stand in the cells 0 to 3
+abbrev pub codesAt : ℕ
+codesAt = 4
+
+abbrev pub termsAt : ℕ
+termsAt = codesAt + 12 * 32
+
+abbrev pub receiptsAt : ℕ
+receiptsAt = termsAt + 6 * 32
+
+abbrev pub pairsAt : ℕ
+pairsAt = receiptsAt + 32 * 12
+
+abbrev pub positionsAt : ℕ
+positionsAt = pairsAt + 144 * 7
+
+abbrev pub noticesAt : ℕ
+noticesAt = positionsAt + 12 * 7
+
+abbrev pub todayAt : ℕ
+todayAt = noticesAt + 32 * 12
+
+abbrev pub tallyAt : ℕ
+tallyAt = todayAt + 144 * 7
+
+abbrev pub bookLength : ℕ
+bookLength = tallyAt + 32 * 12
+
+-- ---- a signed number is kept in its cell as its two's complement: a below 2^63 is a, less b is 2^64 - b
+
+abbrev pub plus : ℕ → ℕ
+plus c = pick (ltb c 9223372036854775808) c 0
+
+abbrev pub minus : ℕ → ℕ
+minus c = pick (ltb c 9223372036854775808) 0 (18446744073709551616 - c)
+
+-- the cell of a - b
+abbrev pub signed : ℕ → ℕ → ℕ
+signed a b = (a + (18446744073709551616 - b)) % 18446744073709551616
+
+abbrev pub signedRows : List (List ℕ) → List (List ℕ) → List (List ℕ)
+signedRows out back = table (length out) (λ p. table (length (row out p)) (λ i. signed (cell out p i) (cell back p i)))
+
+-- ---- the book read as a day
+
+-- pair marks: for each basket a table of 12 rows of 12
+abbrev pub cube : List ℕ → ℕ → ℕ → List (List (List ℕ))
+cube b at n = table baskets (λ k. grid b (at + 144 * k) 12 n n)
+
+unfoldable pub view : List ℕ → Day
+view b =
+    let n : ℕ = getD b 0 0 in
+    let m : ℕ = getD b 1 0 in
+    let positions : List (List ℕ) = grid b positionsAt 12 baskets n in
+    let tally : List (List ℕ) = grid b tallyAt 32 n m in
+    record {
+      given = record {
+        participants = n;
+        issues = m;
+        codes = grid b codesAt 12 m 12;
+        terms = map termsOf (grid b termsAt 6 m 6);
+        receipts = grid b receiptsAt 32 n m;
+        pairs = cube b pairsAt n;
+      };
+      state = record {
+        runs = getD b 2 0;
+        trades = getD b 3 0;
+        owed = map (map plus) positions;
+        due = map (map minus) positions;
+        notices = grid b noticesAt 32 n m;
+        today = cube b todayAt n;
+        delivered = map (map plus) tally;
+        received = map (map minus) tally;
+      };
+    }
+
+-- ---- a day written into the book: places beyond the day's sizes stay
+
+abbrev pub termsRow : Terms → List ℕ
+termsRow t = t .kind ∷ t .price ∷ t .coupon ∷ t .days ∷ t .redeemed ∷ t .interest ∷ []
+
+abbrev pub cubeParts : ℕ → List (List (List ℕ)) → List Part
+cubeParts at marks = map (λ k. record { at = at + 144 * k; stride = 12; rows = row marks k }) (upTo baskets)
+
+abbrev pub partsOf : Day → List Part
+partsOf y =
+    let g : Given = y .given in
+    let s : State = y .state in
+    record { at = 0; stride = 4; rows = (g .participants ∷ g .issues ∷ s .runs ∷ s .trades ∷ []) ∷ [] }
+    ∷ record { at = codesAt; stride = 12; rows = g .codes }
+    ∷ record { at = termsAt; stride = 6; rows = map termsRow (g .terms) }
+    ∷ record { at = receiptsAt; stride = 32; rows = g .receipts }
+    ∷ (cubeParts pairsAt (g .pairs)
+    ++ (record { at = positionsAt; stride = 12; rows = signedRows (s .owed) (s .due) }
+    ∷ record { at = noticesAt; stride = 32; rows = s .notices }
+    ∷ (cubeParts todayAt (s .today)
+    ++ (record { at = tallyAt; stride = 32; rows = signedRows (s .delivered) (s .received) }
+    ∷ []))))
+
+unfoldable pub stored : List ℕ → Day → List ℕ
+stored b y = layAll b (partsOf y)
+
+-- ---- the public calls: the reply, and the book and the lent lists afterwards
+
+unfoldable pub bookFits : List ℕ → Bool
+bookFits b = eqb (length b) bookLength
+
+unfoldable pub soundBook : List ℕ → Bool
+soundBook b = bookFits b && sound (view b)
+
+-- "places beyond the day's sizes too"
+unfoldable pub openOf : ℕ → ℕ → List ℕ → List ℕ → List ℕ → List ℕ → List ℕ → Reply × List ℕ
+openOf n m codes terms receipts pairs b =
+    answer (openRefusal (bookFits b) n m codes terms receipts pairs) accepted
+    (stored (zeros bookLength) (opened (givenOf n m codes terms receipts pairs))) b
+
+unfoldable pub tradeOf : List ℕ → ℕ → ℕ → ℕ → ℕ → Reply × List ℕ
+tradeOf b seller buyer k yen =
+    let y : Day = view b in
+    answer (tradeRefusal (soundBook b) y seller buyer k yen) accepted (stored b (traded y seller buyer k yen)) b
+
+unfoldable pub noticeOf : List ℕ → ℕ → List ℕ → List ℕ → Reply × List ℕ
+noticeOf b p issues lots =
+    let y : Day = view b in
+    answer (noticeRefusal (soundBook b) y p issues lots) accepted (stored b (noticed y p issues lots)) b
+
+-- "Entries past the counts stay"
+unfoldable pub runOf : List ℕ → List ℕ → List ℕ → List ℕ → Reply × (List ℕ × List ℕ × List ℕ)
+runOf b draw matches lines =
+    let y : Day = view b in
+    let done : List Allocation = allocations y draw in
+    answer (runRefusal (soundBook b) y draw (length matches) (length lines)) (runReply done)
+    (stored b (ran y done), over matches 0 (joined (matchList done)), over lines 0 (joined (lineList done)))
+    (b, matches, lines)
+
+-- "The book stays"
+unfoldable pub closeOf : List ℕ → List ℕ → List ℕ → Reply × (List ℕ × List ℕ)
+closeOf b receipts pairs =
+    let y : Day = view b in
+    answer (closeRefusal (soundBook b) y (length receipts) (length pairs)) accepted
+    (over receipts 0 (joined (tomorrowReceipts y)), over pairs 0 (joined (map joined (tomorrowPairs y))))
+    (receipts, pairs)
