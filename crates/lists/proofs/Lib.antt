@@ -1,1 +1,2 @@
--- Laws of the definitions.
+-- Laws of the definitions, cited by the proofs of every crate.
+pub mod SearchLaws

@@ -1,3 +1,3 @@
 -- The laws of the definitions, and the claims' proofs.
 pub mod WholeRule
-pub mod Worked
+pub mod ValueLaws
