@@ -1,2 +1,6 @@
 -- Laws of the definitions, cited by the proofs of every crate.
+pub mod TestLaws
+pub mod FoldLaws
+pub mod TableLaws
+pub mod OrderLaws
 pub mod SearchLaws

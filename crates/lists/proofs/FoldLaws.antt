@@ -1,0 +1,115 @@
+-- Laws of folds, sums and of what holds of every entry. Assumes nothing.
+use mathlib.Core.Path.{_≡_, refl, sym, ap, _∙_}
+use mathlib.Core.Logic.{_⊎_, inl, inr}
+use Prim.Native.Nat.{ℕ, zero, suc, _+_, _-_, _*_, _≤_, _<_, suc-le-suc}
+use native.Mathlib.Nat.{not-suc-le-zero, zero-sub, suc-mul}
+use native.Mathlib.Decide.{ℕ-discrete}
+use native.Mathlib.Numerals.{add-one}
+use native.Mathlib.Omega.{arith}
+use mathlib.Core.Bool.{Bool, true, false}
+use mathlib.Core.List.{List, [], _∷_, _++_, List·Memᴰ, List·Memᴰ·head, List·Memᴰ·tail, List·Memᴰ·cases-cons, List·Memᴰ·not-nil}
+use lib.ListN.{length, getD, take}
+use lib.Seq.{take-suc}
+use lib.Dec.{eqb}
+use borrow.Author.Tests.{ne-eqb}
+use Rattle.lists.specs.Tests.{pick}
+use Rattle.lists.specs.Tables.{from, less}
+use Rattle.lists.specs.Folds.{foldl, total, sum, Every}
+use Rattle.lists.proofs.TestLaws.{pick-no}
+
+-- ---- folds
+
+pub foldl-append : {A B : Type 0} (f : B → A → B) (xs ys : List A) (s : B) → foldl f s (xs ++ ys) ≡ foldl f (foldl f s xs) ys
+foldl-append f [] ys s = refl
+foldl-append f (x ∷ xs) ys s = foldl-append f xs ys (f s x)
+
+-- one turn of a loop over a list
+pub foldl-take : {A B : Type 0} (f : B → A → B) (xs : List A) (j : ℕ) (d : A) (s : B) → j < length xs
+    → foldl f s (take (j + 1) xs) ≡ f (foldl f s (take j xs)) (getD xs j d)
+foldl-take f xs j d s h = rw (add-one j, take-suc xs j d h) (foldl-append f (take j xs) (getD xs j d ∷ []) s)
+
+-- what each step keeps, for entries of which Q holds
+pub fold-kept : {A B : Type 0} (P : B → Type 0) (Q : A → Type 0) (f : B → A → B) → ((s : B) (x : A) → Q x → P s → P (f s x))
+    → (xs : List A) → Every Q xs → (s : B) → P s → P (foldl f s xs)
+fold-kept P Q f step [] q s h = h
+fold-kept P Q f step (x ∷ xs) q s h = fold-kept P Q f step xs (q .1) (f s x) (step s x (q .0) h)
+
+-- ---- sums
+
+pub total-append : {A : Type 0} (f : A → ℕ) (xs ys : List A) → total f (xs ++ ys) ≡ total f xs + total f ys
+total-append f [] ys = omega arith
+total-append f (x ∷ xs) ys = omega (arith, total-append f xs ys)
+
+pub total-cong : {A : Type 0} (f g : A → ℕ) → ((x : A) → f x ≡ g x) → (l : List A) → total f l ≡ total g l
+total-cong f g h [] = refl
+total-cong f g h (x ∷ xs) = omega (arith, h x, total-cong f g h xs)
+
+pub length-total : {A : Type 0} (l : List A) → length l ≡ total (λ x. 1) l
+length-total [] = refl
+length-total (x ∷ xs) = omega (arith, length-total xs)
+
+-- one cell lowered: no bound on i, since past the end the cell reads 0 and nothing changes
+pub total-less : (f : ℕ → ℕ) (l : List ℕ) (i x : ℕ) → total f (less l i x) + f (getD l i 0) ≡ total f l + f (getD l i 0 - x)
+total-less f [] i x = rw (zero-sub x)
+total-less f (y ∷ ys) zero x = omega arith
+total-less f (y ∷ ys) (suc i) x = omega (arith, total-less f ys i x)
+
+pub total-at : (f : ℕ → ℕ) → f 0 ≡ 0 → (l : List ℕ) (i : ℕ) → f (getD l i 0) ≤ total f l
+total-at f z [] i = omega arith
+total-at f z (y ∷ ys) zero = omega arith
+total-at f z (y ∷ ys) (suc i) = omega (arith, total-at f z ys i)
+
+-- n terms of c at most
+pub total-bound : (f : ℕ → ℕ) (c k n : ℕ) → ((i : ℕ) → i < k + n → f i ≤ c) → total f (from k n) ≤ n * c
+total-bound f c k zero h = omega arith
+total-bound f c k (suc n) h = omega (arith, h k (omega arith), total-bound f c (suc k) n (λ i j. h i (omega arith)), suc-mul n c)
+
+-- a list sums to 0, or has a cell above 0
+pub sum-or : (l : List ℕ) → (sum l ≡ 0) ⊎ ((i : ℕ) × (i < length l) × (0 < getD l i 0))
+sum-or [] = inl refl
+sum-or (suc x ∷ xs) = inr (0, omega arith, omega arith)
+sum-or (zero ∷ xs) = go (sum-or xs)
+  where
+    go : (sum xs ≡ 0) ⊎ ((i : ℕ) × (i < length xs) × (0 < getD xs i 0)) → (sum (zero ∷ xs) ≡ 0) ⊎ ((i : ℕ) × (i < length (zero ∷ xs)) × (0 < getD (zero ∷ xs) i 0))
+    go (inl e) = inl (omega arith)
+    go (inr w) = inr (suc (w .0), suc-le-suc (w .1), w .2)
+
+pub sum-zeros : (l : List ℕ) → ((i : ℕ) → i < length l → getD l i 0 ≡ 0) → sum l ≡ 0
+sum-zeros [] h = refl
+sum-zeros (x ∷ xs) h = omega (arith, h 0 (omega arith), sum-zeros xs (λ i k. h (suc i) (suc-le-suc k)))
+
+-- what is counted is there
+pub counted-mem : (p : ℕ) (xs : List ℕ) → 0 < total (λ x. pick (eqb x p) 1 0) xs → List·Memᴰ p xs
+counted-mem p [] h = absurd (not-suc-le-zero h)
+counted-mem p (x ∷ xs) h = go (ℕ-discrete x p) (counted-mem p xs)
+  where
+    go : Dec (x ≡ p) → (0 < total (λ x. pick (eqb x p) 1 0) xs → List·Memᴰ p xs) → List·Memᴰ p (x ∷ xs)
+    go (yes e) f = List·Memᴰ·head (sym e)
+    go (no k) f = List·Memᴰ·tail (f (omega (arith, h, pick-no {X = ℕ} (eqb x p) 1 0 (ne-eqb x p k))))
+
+-- ---- every entry
+
+pub every-append : {A : Type 0} (P : A → Type 0) (xs ys : List A) → Every P xs → Every P ys → Every P (xs ++ ys)
+every-append P [] ys hx hy = hy
+every-append P (x ∷ xs) ys hx hy = (hx .0, every-append P xs ys (hx .1) hy)
+
+pub every-map : {A : Type 0} (P Q : A → Type 0) → ((x : A) → P x → Q x) → (xs : List A) → Every P xs → Every Q xs
+every-map P Q f [] h = tt
+every-map P Q f (x ∷ xs) h = (f x (h .0), every-map P Q f xs (h .1))
+
+pub every-all : {A : Type 0} (P : A → Type 0) → ((x : A) → P x) → (xs : List A) → Every P xs
+every-all P f [] = tt
+every-all P f (x ∷ xs) = (f x, every-all P f xs)
+
+pub every-from : (P : ℕ → Type 0) (k n : ℕ) → ((i : ℕ) → k ≤ i → i < k + n → P i) → Every P (from k n)
+every-from P k zero h = tt
+every-from P k (suc n) h = (h k (omega arith) (omega arith), every-from P (suc k) n (λ i a b. h i (omega arith) (omega arith)))
+
+-- an entry that is there
+pub every-mem : {A : Type 0} (P : A → Type 0) (a : A) (xs : List A) → Every P xs → List·Memᴰ a xs → P a
+every-mem P a [] h m = absurd (List·Memᴰ·not-nil m)
+every-mem P a (x ∷ xs) h m = go (List·Memᴰ·cases-cons m) (every-mem P a xs (h .1))
+  where
+    go : (a ≡ x) ⊎ List·Memᴰ a xs → (List·Memᴰ a xs → P a) → P a
+    go (inl e) f = rw e (h .0)
+    go (inr k) f = f k
