@@ -1,3 +1,4 @@
 -- The laws of the definitions, and the claims' proofs.
 pub mod WholeRule
 pub mod ValueLaws
+pub mod MatchingLaws
