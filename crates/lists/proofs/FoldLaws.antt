@@ -48,6 +48,18 @@ pub length-total : {A : Type 0} (l : List A) → length l ≡ total (λ x. 1) l
 length-total [] = refl
 length-total (x ∷ xs) = omega (arith, length-total xs)
 
+pub total-sum : {A : Type 0} (f g : A → ℕ) (l : List A) → total (λ x. f x + g x) l ≡ total f l + total g l
+total-sum f g [] = refl
+total-sum f g (x ∷ xs) = omega (arith, total-sum f g xs)
+
+pub total-zero : {A : Type 0} (l : List A) → total (λ x. 0) l ≡ 0
+total-zero [] = refl
+total-zero (x ∷ xs) = omega (arith, total-zero xs)
+
+pub total-ones : (f : ℕ → ℕ) (k n : ℕ) → ((i : ℕ) → i < k + n → f i ≡ 1) → total f (from k n) ≡ n
+total-ones f k zero h = refl
+total-ones f k (suc n) h = omega (arith, h k (omega arith), total-ones f (suc k) n (λ i l. h i (omega arith)))
+
 -- one cell lowered: no bound on i, since past the end the cell reads 0 and nothing changes
 pub total-less : (f : ℕ → ℕ) (l : List ℕ) (i x : ℕ) → total f (less l i x) + f (getD l i 0) ≡ total f l + f (getD l i 0 - x)
 total-less f [] i x = rw (zero-sub x)

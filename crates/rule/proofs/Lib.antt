@@ -2,3 +2,4 @@
 pub mod WholeRule
 pub mod ValueLaws
 pub mod MatchingLaws
+pub mod DrawLaws

@@ -13,10 +13,10 @@ use lib.Dec.{eqb}
 use Rattle.lists.specs.Tests.{pick}
 use Rattle.lists.specs.Tables.{less}
 use Rattle.lists.specs.Folds.{foldl, total, sum, Every}
-use Rattle.lists.specs.Order.{sorted, ranked}
+use Rattle.lists.specs.Order.{sorted, ranked, Falling}
 use Rattle.lists.proofs.FoldLaws.{total-append, total-less, total-at, length-total, sum-or, sum-zeros, every-append}
 use Rattle.lists.proofs.TableLaws.{getD-less-same, getD-less-le, length-less, less-pick}
-use Rattle.lists.proofs.OrderLaws.{total-sorted, every-sorted, ranked-mem}
+use Rattle.lists.proofs.OrderLaws.{total-sorted, every-sorted, falling-sorted, ranked-mem}
 use Rattle.rule.specs.Matching.{Match, Left, matched, meet, with, preferred, preferential, turn, drawn, plan}
 
 -- the state in which a basket's matching begins
@@ -71,6 +71,26 @@ module _ (f : Match → ℕ) (P : List ℕ → List ℕ → ℕ → Type 0)
       let e : total f (a .made) + 0 ≡ 0 + total f (a .made) = omega arith in
       subst (P (b .owed) (b .due)) (sym (total-append f (a .made) (b .made)))
       (kept-turns draw (total f (a .made)) ds (begin (a .owed) (a .due)) (subst (P (a .owed) (a .due)) (sym e) (kept-meets true 0 cs (begin o d) h)))
+
+-- ---- the order of filling: a deliverer's drawn matches, all of them, and none other, by falling amounts
+
+module _ (draw : List ℕ) (s : Left) (d : ℕ) where
+  -- the matches of deliverer d in drawn order
+  abbrev inDrawnOrder : List Match
+  inDrawnOrder = foldl (meet false) (begin (s .owed) (s .due)) (with draw d) .made
+
+  pub order-permutes : (f : Match → ℕ) → total f (turn draw s d .made) ≡ total f (s .made ++ inDrawnOrder)
+  unfolding turn
+  order-permutes f =
+      omega (
+        arith,
+        total-append f (s .made) (sorted (λ m. m .amount) inDrawnOrder),
+        total-append f (s .made) inDrawnOrder,
+        total-sorted (λ m. m .amount) f inDrawnOrder,
+      )
+
+  pub order-falls : Falling (λ m. m .amount) (sorted (λ m. m .amount) inDrawnOrder)
+  order-falls = falling-sorted (λ m. m .amount) inDrawnOrder
 
 -- ---- every amount is above 0
 
