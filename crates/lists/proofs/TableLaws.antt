@@ -66,10 +66,10 @@ less-pick l i x p h = go (ℕ-discrete p i)
 pub length-less : (l : List ℕ) (i x : ℕ) → length (less l i x) ≡ length l
 length-less l i x = length-set l i (getD l i 0 - x)
 
--- a cell replaced stays within a bound
-pub set-bounded : (l : List ℕ) (i n j b : ℕ) → (j ≡ i → n ≤ b) → getD l j 0 ≤ b → getD (set l i n) j 0 ≤ b
-set-bounded [] i n j b k h = h
-set-bounded (x ∷ xs) zero n zero b k h = k refl
-set-bounded (x ∷ xs) zero n (suc j) b k h = h
-set-bounded (x ∷ xs) (suc i) n zero b k h = h
-set-bounded (x ∷ xs) (suc i) n (suc j) b k h = set-bounded xs i n j b (λ e. k (ap suc e)) h
+-- a cell replaced: what holds of the new entry at its place, and of the old ones at theirs
+pub set-kept : (P : ℕ → ℕ → Type 0) (l : List ℕ) (i n j : ℕ) → (j ≡ i → P j n) → P j (getD l j 0) → P j (getD (set l i n) j 0)
+set-kept P [] i n j k h = h
+set-kept P (x ∷ xs) zero n zero k h = k refl
+set-kept P (x ∷ xs) zero n (suc j) k h = h
+set-kept P (x ∷ xs) (suc i) n zero k h = h
+set-kept P (x ∷ xs) (suc i) n (suc j) k h = set-kept (λ j. P (suc j)) xs i n j (λ e. k (ap suc e)) h

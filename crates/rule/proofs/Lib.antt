@@ -3,3 +3,4 @@ pub mod WholeRule
 pub mod ValueLaws
 pub mod MatchingLaws
 pub mod DrawLaws
+pub mod FillingLaws

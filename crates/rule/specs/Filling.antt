@@ -5,7 +5,7 @@ use mathlib.Core.List.{List, [], _∷_}
 use lib.ListN.{length, getD, set}
 use lib.Dec.{leb, ltb, eqb}
 use Rattle.lists.specs.Tests.{pick, allBelow}
-use Rattle.lists.specs.Tables.{upTo, zeros}
+use Rattle.lists.specs.Tables.{upTo, table, zeros}
 use Rattle.lists.specs.Folds.{foldl, keep}
 use Rattle.rule.specs.Value.{Terms, noTerms, value, fewest, most}
 use Rattle.rule.specs.Baskets.{within}
@@ -155,3 +155,7 @@ filled (suc (suc runs)) preferential ts usable order f amount =
 -- all of the match's lots of issue i, the forced ones too
 unfoldable pub allLots : Filled → ℕ → ℕ
 allLots m i = getD (m .lots) i 0 + pick (eqb i (m .forced)) (m .forcedLots) 0
+
+-- the same as a list, by issue
+unfoldable pub matchLots : Filled → List ℕ
+matchLots m = table (length (m .lots)) (allLots m)
