@@ -4,3 +4,4 @@ pub mod ValueLaws
 pub mod MatchingLaws
 pub mod DrawLaws
 pub mod FillingLaws
+pub mod FilledLaws
