@@ -4,3 +4,5 @@ pub mod FoldLaws
 pub mod TableLaws
 pub mod OrderLaws
 pub mod SearchLaws
+pub mod PartLaws
+pub mod WriteLaws

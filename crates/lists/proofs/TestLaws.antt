@@ -1,15 +1,16 @@
 -- Laws of choices and tests: a row of tests, a scan of all indices below a number, a check table. Assumes nothing.
 use mathlib.Core.Path.{_≡_, refl, sym, _∙_, ap, ap₂}
-use mathlib.Core.Bool.{Bool, true, false, not, _&&_, _||_}
-use mathlib.Core.List.{List, [], _∷_}
+use mathlib.Core.Bool.{Bool, true, false, not, _&&_, _||_, Bool·beq}
+use mathlib.Core.List.{List, [], _∷_, map}
 use mathlib.Core.Logic.{_⊎_, inl, inr, ⊎-elim}
 use Prim.Native.Nat.{ℕ, zero, suc, _+_, _≤_, _<_}
 use native.Mathlib.Nat.{eq-or-lt-of-le, le-of-suc-le-suc, not-suc-le-zero}
 use native.Mathlib.Numerals.{add-one}
 use native.Mathlib.Omega.{arith}
+use lib.Dec.{leb}
 use lib.ListN.{length, getD}
-use borrow.Author.Tests.{le-leb, lt-leb, eq-eqb, ne-eqb, not-true, not-false}
-use Rattle.lists.specs.Tests.{pick, allBelow, holds, first}
+use borrow.Author.Tests.{le-leb, lt-leb, leb-true, eq-eqb, ne-eqb, not-true, not-false}
+use Rattle.lists.specs.Tests.{pick, allBelow, holds, member, first}
 
 -- a test does not both hold and fail
 pub both-ways {ℓ} : {X : Type ℓ} (b : Bool) → b ≡ true → b ≡ false → X
@@ -59,6 +60,13 @@ and-right false b h = both-ways false h refl
 pub or-cases : (a b : Bool) → (a || b) ≡ true → (a ≡ true) ⊎ (b ≡ true)
 or-cases true b h = inl refl
 or-cases false b h = inr h
+
+-- two tests that a computed test finds equal
+pub beq-eq : (a b : Bool) → Bool·beq a b ≡ true → a ≡ b
+beq-eq true true h = refl
+beq-eq true false h = sym h
+beq-eq false true h = h
+beq-eq false false h = refl
 
 -- ---- a scan: the test holds at every index below n
 
@@ -143,6 +151,14 @@ unfolding holds
 holds-at [] h i l = absurd (not-suc-le-zero l)
 holds-at (t ∷ ts) h zero l = and-left t (holds ts) h
 holds-at (t ∷ ts) h (suc i) l = holds-at ts (and-right t (holds ts) h) i (le-of-suc-le-suc l)
+
+-- a number above all of a list does not stand in it
+pub absent : {b x : ℕ} → b < x → (l : List ℕ) → holds (map (λ y. leb y b) l) ≡ true → member x l ≡ false
+unfolding holds member
+absent h [] k = refl
+absent {b} {x} h (y ∷ ys) k =
+    let rest : Bool = holds (map (λ y. leb y b) ys) in
+    rw (ne-eqb x y (omega (arith, leb-true y b (and-left (leb y b) rest k)))) (absent h ys (and-right (leb y b) rest k))
 
 -- ---- a check table
 

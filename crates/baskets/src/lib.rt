@@ -1,0 +1,55 @@
+// Which kinds a basket takes, and how many lots may be used.
+ghost use mathlib.Core.Path.{_≡_};
+ghost use Rattle.lists.specs.Tests.{pick};
+ghost use Rattle.rule.specs.Value.{Terms};
+ghost use Rattle.rule.specs.Baskets.{within};
+ghost use Rattle.rule.specs.Allocable.{unmarked, allocable as allocableOf};
+use rule::Lots;
+
+// "The composition of the seven baskets is fixed": a row for each basket, A to G, and in it 1 for each kind that it takes.
+const COMPOSITION: [[u8; 7]; 7] = [
+    [1, 0, 0, 0, 0, 0, 0],
+    [1, 1, 0, 0, 0, 0, 0],
+    [1, 1, 1, 1, 0, 0, 0],
+    [1, 1, 1, 1, 1, 0, 0],
+    [1, 1, 1, 1, 1, 1, 0],
+    [1, 1, 1, 1, 1, 0, 1],
+    [1, 1, 1, 1, 1, 1, 1],
+];
+
+// Whether an issue of the kind is in the basket.
+pub fn is_within(basket: u64, kind: u64) -> bool
+    ensures { λ r. ⌜ ((t : Terms) → t .kind ≡ kind → r ≡ within basket t) ⌝ }
+{
+    if basket > 6 {
+        return false;
+    }
+    match kind {
+        0..=6 => COMPOSITION[basket as usize][kind as usize] == 1,
+        _ => false,
+    }
+}
+
+// "An issue is unmarked if both are 0".
+pub fn is_unmarked(redeemed: u64, interest: u64) -> bool
+    ensures { λ r. ⌜ ((t : Terms) → t .redeemed ≡ redeemed → t .interest ≡ interest → r ≡ unmarked t) ⌝ }
+{
+    redeemed == 0 && interest == 0
+}
+
+// The lots where the issue may be used, else none.
+fn lots_if(usable: bool, lots: Lots) -> Lots
+    ensures { λ r. ⌜ r .0 ≡ pick usable (lots .0) 0 ⌝ }
+{
+    if usable { lots } else { Lots(0) }
+}
+
+// "The window decides the allocable quantity": run 1 has one rule, "runs 2 and 3" another.
+pub fn allocable(runs: u64, redeemed: u64, interest: u64, notified: Lots, scheduled: Lots) -> Lots
+    ensures { λ r. ⌜ ((t : Terms) → t .redeemed ≡ redeemed → t .interest ≡ interest → r .0 ≡ allocableOf runs t (notified .0) (scheduled .0)) ⌝ }
+{
+    match runs {
+        0 => lots_if(redeemed == 0, Lots(lists::smaller(notified.0, scheduled.0))),
+        _ => lots_if(is_unmarked(redeemed, interest), notified),
+    }
+}
