@@ -67,15 +67,20 @@ fourPositions =
     outcome (tradeDay (tradeDay (tradeDay (openWith 4 (terms 10000 0 0) (0 ∷ 0 ∷ []) .1) 0 2 2 50 .1) 1 2 2 10 .1) 1 3 2 70 .1)
     (3 ∷ 2 ∷ 0 ∷ 1 ∷ [])
 
--- row 3 through the book: what stands in the first places of the lent lists
+-- a call on a book: matching makes antt work the book out once, before the call reads its cells
+abbrev pub onBook : {X : Type 0} → List ℕ → (List ℕ → X) → X
+onBook [] call = call []
+onBook (c ∷ cs) call = call (c ∷ cs)
+
+-- row 3 through the book: opening, notice, trade and run, and what then stands in the first places of the lent lists
 unfoldable pub bookOutcome : Outcome
 bookOutcome =
     let t : List ℕ = terms 10000 0 0 in
-    let a : List ℕ = openOf 2 2 (code0 ++ code1) (t ++ t) (2 ∷ 1 ∷ 0 ∷ 0 ∷ []) (zeros 28) (zeros bookLength) .1 in
-    let b : List ℕ = noticeOf a 0 (0 ∷ 1 ∷ []) (2 ∷ 1 ∷ []) .1 in
-    let c : List ℕ = tradeOf b 0 1 2 120000 .1 in
-    let r : Reply × (List ℕ × List ℕ × List ℕ) = runOf c (0 ∷ 1 ∷ []) (zeros 539) (zeros 7392) in
-    record { reply = r .0; matches = take 7 (r .1 .1) ∷ []; lines = take 6 (r .1 .2) ∷ [] }
+    onBook (openOf 2 2 (code0 ++ code1) (t ++ t) (2 ∷ 1 ∷ 0 ∷ 0 ∷ []) (zeros 28) (zeros bookLength) .1) (λ openedBook.
+    onBook (noticeOf openedBook 0 (0 ∷ 1 ∷ []) (2 ∷ 1 ∷ []) .1) (λ noticedBook.
+    onBook (tradeOf noticedBook 0 1 2 120000 .1) (λ tradedBook.
+    let r : Reply × (List ℕ × List ℕ × List ℕ) = runOf tradedBook (0 ∷ 1 ∷ []) (zeros 539) (zeros 7392) in
+    record { reply = r .0; matches = take 7 (r .1 .1) ∷ []; lines = take 6 (r .1 .2) ∷ [] })))
 
 pub record WorkedDays : Type 0 where
   -- "Coupon 100, 1 day: interest on 7 lots 0, on 8 lots 1"
