@@ -17,7 +17,7 @@ use Rattle.lists.specs.Folds.{foldl, Every}
 use Rattle.lists.proofs.TestLaws.{pick-yes, pick-no, pick-cases}
 use Rattle.lists.proofs.TableLaws.{length-table, getD-table, getD-zeros}
 use Rattle.rule.specs.Value.{Terms, noTerms, value, fewest}
-use Rattle.rule.specs.Filling.{worth, Taken, nothing, lotsOf, others, walk, fillPreferential, unit, target, takeUnits, firstPass, secondPass, fillDrawn, fill, shortageStep, shortage, covered, Filled, plain, force, filled, allLots, matchLots}
+use Rattle.rule.specs.Filling.{worth, Taken, nothing, lotsOf, others, walk, fillPreferential, unit, target, takeUnits, firstPass, withRemainder, secondPass, fillDrawn, fill, shortageStep, shortage, covered, Filled, plain, cover, carry, force, filled, allLots, matchLots}
 use Rattle.rule.proofs.ValueLaws.{fewest-reaches, fewest-least}
 use Rattle.rule.proofs.FillingLaws.{Priced, Good, Last, Tight, Units, apart, worth-set, worth-zeros, walk-good, walk-reaches, walk-tight, pass-good, pass-tight}
 
@@ -58,11 +58,12 @@ module _ (ts : List Terms) (priced : Priced ts) (usable : List ℕ) (even : leng
     unfolding firstPass
     first-good = pass-good ts priced usable (target amount) order (named .inside) (nothing (length usable)) nothing-units
 
-    -- the second pass's bound: what the first took, and the remainder under a unit
+    -- the second pass's bound
     abbrev remainders : ℕ → ℕ
-    remainders i = lotsOf (firstPass ts usable order amount) i + getD usable i 0 % unit
+    remainders i = withRemainder usable (firstPass ts usable order amount) i
 
     first-within : Good ts remainders (firstPass ts usable order amount)
+    unfolding withRemainder
     first-within = record { sized = first-good .good .sized; bounded = λ i. omega arith }
 
     second-good : Good ts remainders (secondPass ts usable order amount)
@@ -70,6 +71,7 @@ module _ (ts : List Terms) (priced : Priced ts) (usable : List ℕ) (even : leng
     second-good = walk-good ts priced amount remainders order (named .inside) (firstPass ts usable order amount) first-within
 
     second-within : Good ts may (secondPass ts usable order amount)
+    unfolding withRemainder
     second-within = record { sized = second-good .sized; bounded = λ i. omega (arith, second-good .bounded i, first-good .good .bounded i) }
 
     pub drawn-good : Good ts may (fillDrawn ts usable order amount)
@@ -187,27 +189,32 @@ plain-all amount s i = omega (arith, pick-zero (eqb i 0))
 
 module _ (ts : List Terms) (priced : Priced ts) (usable : List ℕ) (even : length usable ≡ length ts) (order : List ℕ) (named : Order (length ts) order)
     (preferential : Bool) (amount : ℕ) where
-  -- a match that is filled with usable lots alone, for an amount that they are worth
-  plain-right : (c : ℕ) → c ≤ amount → c ≤ worth ts usable → FilledRight ts usable amount (plain c (fill preferential ts usable order c))
-  plain-right c le can =
+  -- usable lots cover an amount that they are worth
+  cover-right : (c : ℕ) → c ≤ amount → c ≤ worth ts usable → FilledRight ts usable amount (cover preferential ts usable order c)
+  unfolding cover
+  cover-right c le can =
       let s : Taken = fill preferential ts usable order c in
       record {
         most = le;
         bounded = fill-good ts priced usable even order named c preferential .bounded;
         enough = rw (plain-lots c s) (reached (decLt 0 c));
-        fewest = λ some. fewer (fill-exact ts priced usable even order named c some can preferential .last);
+        fewest = λ some. fewer s (fill-exact ts priced usable even order named c some can preferential .last);
       }
     where
       reached : Dec (0 < c) → c ≤ worth ts (fill preferential ts usable order c .lots)
       reached (yes some) = fill-exact ts priced usable even order named c some can preferential .enough
       reached (no none) = omega arith
 
-      fewer : Last ts priced c (fill preferential ts usable order c) → Fewest ts (plain c (fill preferential ts usable order c))
-      fewer l = record {
+      fewer : (s : Taken) → Last ts priced c s → Fewest ts (plain c s)
+      fewer s l = record {
         within = l .within;
-        some = rw (plain-all c (fill preferential ts usable order c) (fill preferential ts usable order c .last)) (l .some);
-        short = rw (plain-lots c (fill preferential ts usable order c), plain-all c (fill preferential ts usable order c) (fill preferential ts usable order c .last)) (l .short);
+        some = rw (plain-all c s (s .last)) (l .some);
+        short = rw (plain-lots c s, plain-all c s (s .last)) (l .short);
       }
+
+  carry-right : FilledRight ts usable amount (carry preferential ts usable order amount)
+  unfolding carry
+  carry-right = cover-right _ (covered-most amount (worth ts usable)) (covered-can amount (worth ts usable))
 
   -- ---- forced lots
 
@@ -275,16 +282,16 @@ module _ (ts : List Terms) (priced : Priced ts) (usable : List ℕ) (even : leng
   -- every match of every run, with the forced issue f
   pub filled-right : (runs f : ℕ) → f < length ts → FilledRight ts usable amount (filled runs preferential ts usable order f amount)
   unfolding filled
-  filled-right zero f h = plain-right (covered amount (worth ts usable)) (covered-most amount (worth ts usable)) (covered-can amount (worth ts usable))
-  filled-right (suc zero) f h = plain-right (covered amount (worth ts usable)) (covered-most amount (worth ts usable)) (covered-can amount (worth ts usable))
+  filled-right zero f h = carry-right
+  filled-right (suc zero) f h = carry-right
   filled-right (suc (suc runs)) f h =
-      pick-cases (FilledRight ts usable amount) (leb amount (worth ts usable)) (plain amount (fill preferential ts usable order amount)) (force ts usable f amount)
-      (λ e. plain-right amount (le-refl amount) (leb-true amount (worth ts usable) e))
+      pick-cases (FilledRight ts usable amount) (leb amount (worth ts usable)) (cover preferential ts usable order amount) (force ts usable f amount)
+      (λ e. cover-right amount (le-refl amount) (leb-true amount (worth ts usable) e))
       (λ e. force-right f h (leb-false amount (worth ts usable) e))
 
   -- the third run covers all
   pub third-covers : (runs f : ℕ) → filled (suc (suc runs)) preferential ts usable order f amount .covered ≡ amount
-  unfolding filled force
+  unfolding filled cover force
   third-covers runs f =
-      pick-cases (λ (m : Filled). m .covered ≡ amount) (leb amount (worth ts usable)) (plain amount (fill preferential ts usable order amount)) (force ts usable f amount)
+      pick-cases (λ (m : Filled). m .covered ≡ amount) (leb amount (worth ts usable)) (cover preferential ts usable order amount) (force ts usable f amount)
       (λ e. refl) (λ e. refl)

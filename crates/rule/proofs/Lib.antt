@@ -1,6 +1,10 @@
--- The laws of the definitions, and the claims' proofs.
+-- The laws of the definitions, the worked days, and examples.
+pub mod NumberRule
 pub mod WholeRule
 pub mod Worked
+pub mod FillingExamples
+pub mod MatchingExamples
+pub mod CallExamples
 pub mod ValueLaws
 pub mod MatchingLaws
 pub mod DrawLaws

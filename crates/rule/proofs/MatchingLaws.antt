@@ -13,11 +13,11 @@ use lib.Dec.{eqb}
 use Rattle.lists.specs.Tests.{pick}
 use Rattle.lists.specs.Tables.{less}
 use Rattle.lists.specs.Folds.{foldl, total, sum, Every}
-use Rattle.lists.specs.Order.{sorted, ranked, Falling}
+use Rattle.lists.specs.Order.{sorted, Falling}
 use Rattle.lists.proofs.FoldLaws.{total-append, total-less, total-at, length-total, sum-or, sum-zeros, every-append}
 use Rattle.lists.proofs.TableLaws.{getD-less-same, getD-less-le, length-less, less-pick}
 use Rattle.lists.proofs.OrderLaws.{total-sorted, every-sorted, falling-sorted, ranked-mem}
-use Rattle.rule.specs.Matching.{Match, Left, matched, meet, with, preferred, preferential, turn, drawn, plan}
+use Rattle.rule.specs.Matching.{Match, Left, matched, meet, with, preferred, preferential, turn, deliverers, drawn, plan}
 
 -- the state in which a basket's matching begins
 abbrev begin : List ℕ → List ℕ → Left
@@ -66,7 +66,7 @@ module _ (f : Match → ℕ) (P : List ℕ → List ℕ → ℕ → Type 0)
   kept-plan runs marks draw o d h =
       let cs : List (ℕ × ℕ) = preferred runs marks (length o) in
       let a : Left = foldl (meet true) (begin o d) cs in
-      let ds : List ℕ = ranked (λ p. getD (a .owed) p 0) (length (a .owed)) in
+      let ds : List ℕ = deliverers (a .owed) in
       let b : Left = foldl (turn draw) (begin (a .owed) (a .due)) ds in
       let e : total f (a .made) + 0 ≡ 0 + total f (a .made) = omega arith in
       subst (P (b .owed) (b .due)) (sym (total-append f (a .made) (b .made)))
@@ -122,7 +122,7 @@ pub plan-positive : (runs : ℕ) (marks : List (List ℕ)) (draw o d : List ℕ)
 unfolding plan preferential drawn
 plan-positive runs marks draw o d =
     let a : Left = foldl (meet true) (begin o d) (preferred runs marks (length o)) in
-    let ds : List ℕ = ranked (λ p. getD (a .owed) p 0) (length (a .owed)) in
+    let ds : List ℕ = deliverers (a .owed) in
     every-append Positive (a .made) (foldl (turn draw) (begin (a .owed) (a .due)) ds .made)
     (meets-positive true (preferred runs marks (length o)) (begin o d) tt) (turns-positive draw ds (begin (a .owed) (a .due)) tt)
 
@@ -316,6 +316,11 @@ spent o d e h = go (sum-or d)
 abbrev pub Names : List ℕ → ℕ → Type 0
 Names draw n = (p : ℕ) → p < n → List·Memᴰ p draw
 
+-- every participant is among the deliverers
+deliverers-mem : (owed : List ℕ) (p : ℕ) → p < length owed → List·Memᴰ p (deliverers owed)
+unfolding deliverers
+deliverers-mem owed p h = ranked-mem _ (length owed) p h
+
 pairs-length : (runs : ℕ) (marks : List (List ℕ)) (o d : List ℕ) → length (preferential runs marks o d .owed) ≡ length o
 unfolding preferential
 pairs-length runs marks o d =
@@ -326,11 +331,10 @@ module _ (runs : ℕ) (marks : List (List ℕ)) (draw o d : List ℕ) (same : le
   unfolding drawn both
   nothing-left =
       let a : Left = preferential runs marks o d in
-      let key : ℕ → ℕ = λ p. getD (a .owed) p 0 in
       let lens : (length (left runs marks draw o d .owed) ≡ length o) × (length (left runs marks draw o d .due) ≡ length d) = lengths-kept runs marks draw o d in
       spent (left runs marks draw o d .owed) (left runs marks draw o d .due) (sums-kept runs marks draw o d even) (λ i j hi hj.
-      turns-done draw (ranked key (length (a .owed))) (begin (a .owed) (a .due)) i j
-      (ranked-mem key (length (a .owed)) i (omega (arith, pairs-length runs marks o d)))
+      turns-done draw (deliverers (a .owed)) (begin (a .owed) (a .due)) i j
+      (deliverers-mem (a .owed) i (omega (arith, pairs-length runs marks o d)))
       (names j (omega arith)))
 
   -- what a participant owed is matched in full, and what it had due

@@ -56,8 +56,11 @@ turn draw s d =
     record { owed = t .owed; due = t .due; made = s .made ++ sorted (λ m. m .amount) (t .made) }
 
 -- "deliverers go from the larger position left (ties: smaller number)"
+unfoldable pub deliverers : List ℕ → List ℕ
+deliverers owed = ranked (λ p. getD owed p 0) (length owed)
+
 unfoldable pub drawn : List ℕ → List ℕ → List ℕ → Left
-drawn draw owed due = foldl (turn draw) (record { owed = owed; due = due; made = [] }) (ranked (λ p. getD owed p 0) (length owed))
+drawn draw owed due = foldl (turn draw) (record { owed = owed; due = due; made = [] }) (deliverers owed)
 
 -- a basket's matches in the order of filling: "Preferential matches are filled first"
 unfoldable pub plan : ℕ → List (List ℕ) → List ℕ → List ℕ → List ℕ → List Match
