@@ -114,6 +114,12 @@ block-row b at stride p q i m v hi hm ne = go (rows-apart stride p q i m hi hm n
 pub grid-get : (b : List ℕ) (at stride n m p i : ℕ) → p < n → i < m → cell (grid b at stride n m) p i ≡ getD b (at + stride * p + i) 0
 grid-get b at stride n m p i hp hi = rw (getD-table n (λ q. block b (at + stride * q) m) p [] hp) (block-get b (at + stride * p) m i hi)
 
+-- row p of rows that stand one after the other
+pub row-at : (xs : List ℕ) (n m p : ℕ) → p < n → getD (grid xs 0 m n m) p [] ≡ block xs (m * p) m
+row-at xs n m p l =
+    let e : 0 + m * p ≡ m * p = omega arith in
+    getD-table n (λ k. block xs (0 + m * k) m) p [] l ∙ ap (λ (o : ℕ). block xs o m) e
+
 -- a cell of the list is a cell of the table
 pub grid-set : (b : List ℕ) (at stride n m p i v : ℕ) → p < n → i < m → m ≤ stride
     → grid (set b (at + stride * p + i) v) at stride n m ≡ put (grid b at stride n m) p i v

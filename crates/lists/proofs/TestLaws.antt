@@ -132,6 +132,13 @@ flag-no r t e h = sym e ∙ not-true r h
 pub flag-yes : (r t : Bool) → r ≡ t → not r ≡ false → t ≡ true
 flag-yes r t e h = sym e ∙ not-false r h
 
+-- the same of `if right(..)`
+pub said-no : (r t : Bool) → r ≡ t → r ≡ false → t ≡ false
+said-no r t e h = sym e ∙ h
+
+pub said-yes : (r t : Bool) → r ≡ t → r ≡ true → t ≡ true
+said-yes r t e h = sym e ∙ h
+
 pub ruleset scan = (all-more, none-is, stop-is, through-is, lt-leb, le-leb, eq-eqb, ne-eqb, flag-no, flag-yes)
 
 -- a row of tests with a return for each: `search (tests, needs) depth 8`
@@ -141,7 +148,13 @@ row-stop a b p = sym (stop a b p)
 pub row-go : (a b r : Bool) → a ≡ true → r ≡ b → r ≡ (a && b)
 row-go a b r p q = sym (go a b p (sym q))
 
-pub ruleset tests = (row-stop, row-go, lt-leb, le-leb, eq-eqb, ne-eqb, flag-no, flag-yes)
+pub or-stop : (a b : Bool) → a ≡ true → true ≡ (a || b)
+or-stop a b p = rw p
+
+pub or-go : (a b r : Bool) → a ≡ false → r ≡ b → r ≡ (a || b)
+or-go a b r p q = rw p q
+
+pub ruleset tests = (row-stop, row-go, or-stop, or-go, lt-leb, le-leb, eq-eqb, ne-eqb, flag-no, flag-yes, said-no, said-yes)
 
 -- ---- a list of tests
 

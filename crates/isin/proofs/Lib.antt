@@ -1,0 +1,2 @@
+-- Laws of the code rule.
+pub mod CodeLaws

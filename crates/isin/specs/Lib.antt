@@ -1,0 +1,3 @@
+-- What the contracts of codes cite besides the rule.
+pub mod Code
+pub mod Summing
