@@ -1,7 +1,7 @@
 -- Laws of tables that stand in one list of cells: what is written is read back, and nothing else moves. Assumes nothing.
-use mathlib.Core.Path.{_≡_, refl, sym, ap, ap₂, _∙_}
+use mathlib.Core.Path.{_≡_, refl, sym, ap, ap₂, _∙_, subst}
 use mathlib.Core.Logic.{_≢_, _⊎_, inl, inr}
-use Prim.Native.Nat.{ℕ, zero, suc, _+_, _-_, _*_, _≤_, _<_, min}
+use Prim.Native.Nat.{ℕ, zero, suc, _+_, _-_, _*_, _≤_, _<_, min, suc-le-suc}
 use native.Mathlib.Nat.{not-suc-le-zero, le-of-suc-le-suc, mul-suc, suc-mul, mul-comm, mul-le-mul-left, mul-le-mul-right, mul-zero, add-zero, add-sub-cancel-left, le-refl}
 use native.Mathlib.Decide.{decLt, ℕ-discrete}
 use native.Mathlib.Omega.{arith}
@@ -11,7 +11,7 @@ use lib.Seq.{ext-getD, getD-take, getD-drop, length-take-le, drop-at, take-appen
 use borrow.Rule.Slice.PartMut.{putMid}
 use Rattle.lists.specs.Tables.{from, table, row, cell, put}
 use Rattle.lists.specs.Folds.{Every}
-use Rattle.lists.specs.Parts.{block, grid, over, lay, Part, layAll}
+use Rattle.lists.specs.Parts.{block, grid, over, rowsAt, written}
 use Rattle.lists.proofs.FoldLaws.{every-map, every-from}
 use Rattle.lists.proofs.TableLaws.{length-table, getD-table}
 
@@ -153,104 +153,103 @@ table-agree n f g h = map-agree f g (from 0 n) (every-from (λ i. f i ≡ g i) 0
 pub grid-agree : (b c : List ℕ) (at stride n m : ℕ) → ((p : ℕ) → p < n → block b (at + stride * p) m ≡ block c (at + stride * p) m) → grid b at stride n m ≡ grid c at stride n m
 grid-agree b c at stride n m h = table-agree n (λ p. block b (at + stride * p) m) (λ p. block c (at + stride * p) m) h
 
--- ---- rows laid a stride apart
+-- ---- rows written at their places
 
-module _ (stride : ℕ) where
-  pub length-lay : (rs : List (List ℕ)) (b : List ℕ) (at : ℕ) → Every (λ r. length r ≤ stride) rs → at + stride * length rs ≤ length b → length (lay stride b at rs) ≡ length b
-  length-lay [] b at q h = refl
-  length-lay (r ∷ rs) b at q h =
-      let e : length (over b at r) ≡ length b = length-over b r at (omega (arith, mul-suc stride (length rs), q .0)) in
-      length-lay rs (over b at r) (at + stride) (q .1) (omega (arith, mul-suc stride (length rs))) ∙ e
+-- a row stands inside a list of n cells, and a place is outside a row
+abbrev pub Inside : ℕ → ℕ × List ℕ → Type 0
+Inside n w = w .0 + length (w .1) ≤ n
 
-  -- blocks before and after stay
-  pub lay-block : (rs : List (List ℕ)) (b : List ℕ) (at f n : ℕ) → Every (λ r. length r ≤ stride) rs → at + stride * length rs ≤ length b
-      → (f + n ≤ at) ⊎ (at + stride * length rs ≤ f) → block (lay stride b at rs) f n ≡ block b f n
-  lay-block [] b at f n q h d = refl
-  lay-block (r ∷ rs) b at f n q h d =
-      let fit : at + length r ≤ length b = omega (arith, mul-suc stride (length rs), q .0) in
-      let e : length (over b at r) ≡ length b = length-over b r at fit in
-      lay-block rs (over b at r) (at + stride) f n (q .1) (omega (arith, mul-suc stride (length rs))) (left d) ∙ over-block b r at f n fit (right d)
-    where
-      left : (f + n ≤ at) ⊎ (at + stride * length (r ∷ rs) ≤ f) → (f + n ≤ at + stride) ⊎ (at + stride + stride * length rs ≤ f)
-      left (inl k) = inl (omega arith)
-      left (inr k) = inr (omega (arith, mul-suc stride (length rs)))
+abbrev pub Outside : ℕ → ℕ × List ℕ → Type 0
+Outside j w = (j < w .0) ⊎ (w .0 + length (w .1) ≤ j)
 
-      right : (f + n ≤ at) ⊎ (at + stride * length (r ∷ rs) ≤ f) → (f + n ≤ at) ⊎ (at + length r ≤ f)
-      right (inl k) = inl k
-      right (inr k) = inr (omega (arith, mul-suc stride (length rs), q .0))
+-- the list has the row at its place
+abbrev pub Reads : List ℕ → ℕ × List ℕ → Type 0
+Reads b w = block b (w .0) (length (w .1)) ≡ w .1
 
-  -- each row is read back
-  pub lay-row : (m : ℕ) → m ≤ stride → (rs : List (List ℕ)) (b : List ℕ) (at p : ℕ) → Every (λ r. length r ≡ m) rs → at + stride * length rs ≤ length b → p < length rs
-      → block (lay stride b at rs) (at + stride * p) m ≡ row rs p
-  lay-row m hm [] b at p q h l = absurd (not-suc-le-zero l)
-  lay-row m hm (r ∷ rs) b at zero q h l =
-      let fit : at + length r ≤ length b = omega (arith, mul-suc stride (length rs), q .0) in
-      let e : length (over b at r) ≡ length b = length-over b r at fit in
-      rw (mul-zero stride, add-zero at) (lay-block rs (over b at r) (at + stride) at m (every-map (λ r. length r ≡ m) (λ r. length r ≤ stride) (λ x k. omega arith) rs (q .1))
-      (omega (arith, mul-suc stride (length rs))) (inl (omega arith))
-      ∙ ap (block (over b at r) at) (sym (q .0)) ∙ over-same b r at fit)
-  lay-row m hm (r ∷ rs) b at (suc p) q h l =
-      let fit : at + length r ≤ length b = omega (arith, mul-suc stride (length rs), q .0) in
-      let e : length (over b at r) ≡ length b = length-over b r at fit in
-      let j : at + stride * suc p ≡ at + stride + stride * p = omega (arith, mul-suc stride p) in
-      ap (λ k. block (lay stride (over b at r) (at + stride) rs) k m) j
-      ∙ lay-row m hm rs (over b at r) (at + stride) p (q .1) (omega (arith, mul-suc stride (length rs))) (le-of-suc-le-suc l)
+pub length-written : (ws : List (ℕ × List ℕ)) (b : List ℕ) → Every (Inside (length b)) ws → length (written b ws) ≡ length b
+length-written [] b h = refl
+length-written (w ∷ ws) b h =
+    let e : length (over b (w .0) (w .1)) ≡ length b = length-over b (w .1) (w .0) (h .0) in
+    length-written ws (over b (w .0) (w .1)) (subst (λ (n : ℕ). Every (Inside n) ws) (sym e) (h .1)) ∙ e
 
--- the table that was laid is read back
-pub lay-grid : (stride n m : ℕ) → m ≤ stride → (rs : List (List ℕ)) (b : List ℕ) (at : ℕ) → length rs ≡ n → Every (λ r. length r ≡ m) rs → at + stride * n ≤ length b
-    → grid (lay stride b at rs) at stride n m ≡ rs
-lay-grid stride n m hm rs b at e q h = ext-getD [] (grid (lay stride b at rs) at stride n m) rs (length-table n _ ∙ sym e)
-    (λ p k. let k′ : p < n = omega (arith, length-table n (λ j. block (lay stride b at rs) (at + stride * j) m)) in
-    getD-table n (λ j. block (lay stride b at rs) (at + stride * j) m) p [] k′ ∙ lay-row stride m hm rs b at p q (rw e h) (omega arith))
+-- a place outside every row stays
+pub written-out : (ws : List (ℕ × List ℕ)) (b : List ℕ) (j : ℕ) → Every (Inside (length b)) ws → Every (Outside j) ws → getD (written b ws) j 0 ≡ getD b j 0
+written-out [] b j h k = refl
+written-out (w ∷ ws) b j h k =
+    let e : length (over b (w .0) (w .1)) ≡ length b = length-over b (w .1) (w .0) (h .0) in
+    written-out ws (over b (w .0) (w .1)) j (subst (λ (n : ℕ). Every (Inside n) ws) (sym e) (h .1)) (k .1) ∙ over-out b (w .1) (w .0) (h .0) j (k .0)
 
--- and rows laid elsewhere leave a table
-pub lay-elsewhere : (s′ : ℕ) (rs : List (List ℕ)) (b : List ℕ) (at′ at stride n m : ℕ) → Every (λ r. length r ≤ s′) rs → at′ + s′ * length rs ≤ length b
-    → m ≤ stride → (at + stride * n ≤ at′) ⊎ (at′ + s′ * length rs ≤ at) → grid (lay s′ b at′ rs) at stride n m ≡ grid b at stride n m
-lay-elsewhere s′ rs b at′ at stride n m q h hm d = grid-agree (lay s′ b at′ rs) b at stride n m (λ p k. lay-block s′ rs b at′ (at + stride * p) m q h (go p k d))
+-- a list that has every row, and elsewhere the cells of b, is b with the rows written
+pub written-is : (ws : List (ℕ × List ℕ)) (b c : List ℕ) → length c ≡ length b → Every (Inside (length b)) ws → Every (Reads c) ws
+    → ((j : ℕ) → Every (Outside j) ws → getD c j 0 ≡ getD b j 0) → written b ws ≡ c
+written-is [] b c e h r same = ext-getD 0 b c (sym e) (λ j l. sym (same j tt))
+written-is (w ∷ ws) b c e h r same =
+    let k : length (over b (w .0) (w .1)) ≡ length b = length-over b (w .1) (w .0) (h .0) in
+    written-is ws (over b (w .0) (w .1)) c (e ∙ sym k) (subst (λ (n : ℕ). Every (Inside n) ws) (sym k) (h .1)) (r .1)
+    (λ j q. cases j q (decLt j (w .0)) (decLt j (w .0 + length (w .1))))
   where
-    go : (p : ℕ) → p < n → (at + stride * n ≤ at′) ⊎ (at′ + s′ * length rs ≤ at) → (at + stride * p + m ≤ at′) ⊎ (at′ + s′ * length rs ≤ at + stride * p)
-    go p k (inl l) = inl (omega (arith, mul-le-mul-left stride k, mul-suc stride p))
-    go p k (inr l) = inr (omega arith)
+    cases : (j : ℕ) → Every (Outside j) ws → Dec (j < w .0) → Dec (j < w .0 + length (w .1)) → getD c j 0 ≡ getD (over b (w .0) (w .1)) j 0
+    cases j q (yes l) d = same j (inl l, q) ∙ sym (over-out b (w .1) (w .0) (h .0) j (inl l))
+    cases j q (no l) (no m) = same j (inr (omega arith), q) ∙ sym (over-out b (w .1) (w .0) (h .0) j (inr (omega arith)))
+    cases j q (no l) (yes m) =
+        let i : ℕ = j - w .0 in
+        let at : w .0 + i ≡ j = omega arith in
+        ap (λ (n : ℕ). getD c n 0) (sym at) ∙ sym (block-get c (w .0) (length (w .1)) i (omega arith)) ∙ ap (λ (l : List ℕ). getD l i 0) (r .0)
+        ∙ sym (over-in b (w .1) (w .0) (h .0) i (omega arith)) ∙ ap (λ (n : ℕ). getD (over b (w .0) (w .1)) n 0) at
 
--- ---- parts laid one after the other
+-- rows one after the other, from f on: none overlaps the next
+abbrev pub Rising : ℕ → List (ℕ × List ℕ) → Type 0
+Rising f [] = Unit {0}
+Rising f (w ∷ ws) = (f ≤ w .0) × Rising (w .0 + length (w .1)) ws
 
-abbrev pub end : Part → ℕ
-end p = p .at + p .stride * length (p .rows)
+rising-down : (f f′ : ℕ) (ws : List (ℕ × List ℕ)) → f′ ≤ f → Rising f ws → Rising f′ ws
+rising-down f f′ [] h r = tt
+rising-down f f′ (w ∷ ws) h r = (omega arith, r .1)
 
--- in rising places from f on, within n cells; no row longer than its stride
-abbrev pub Ordered : ℕ → List Part → ℕ → Type 0
-Ordered f [] n = f ≤ n
-Ordered f (p ∷ ps) n = (f ≤ p .at) × Every (λ r. length r ≤ p .stride) (p .rows) × Ordered (end p) ps n
+written-before : (ws : List (ℕ × List ℕ)) (b : List ℕ) (f at n : ℕ) → Every (Inside (length b)) ws → Rising f ws → at + n ≤ f
+    → block (written b ws) at n ≡ block b at n
+written-before [] b f at n h r l = refl
+written-before (w ∷ ws) b f at n h r l =
+    let e : length (over b (w .0) (w .1)) ≡ length b = length-over b (w .1) (w .0) (h .0) in
+    written-before ws (over b (w .0) (w .1)) (w .0 + length (w .1)) at n (subst (λ (k : ℕ). Every (Inside k) ws) (sym e) (h .1)) (r .1) (omega arith)
+    ∙ over-block b (w .1) (w .0) at n (h .0) (inl (omega arith))
 
-ordered-end : (ps : List Part) (f n : ℕ) → Ordered f ps n → f ≤ n
-ordered-end [] f n o = o
-ordered-end (p ∷ ps) f n o = omega (arith, o .0, ordered-end ps (end p) n (o .2))
+-- each row is read back
+pub written-reads : (ws : List (ℕ × List ℕ)) (b : List ℕ) (f : ℕ) → Every (Inside (length b)) ws → Rising f ws → Every (Reads (written b ws)) ws
+written-reads [] b f h r = tt
+written-reads (w ∷ ws) b f h r =
+    let e : length (over b (w .0) (w .1)) ≡ length b = length-over b (w .1) (w .0) (h .0) in
+    let h′ : Every (Inside (length (over b (w .0) (w .1)))) ws = subst (λ (k : ℕ). Every (Inside k) ws) (sym e) (h .1) in
+    (
+      written-before ws (over b (w .0) (w .1)) (w .0 + length (w .1)) (w .0) (length (w .1)) h′ (r .1) (le-refl _) ∙ over-same b (w .1) (w .0) (h .0),
+      written-reads ws (over b (w .0) (w .1)) (w .0 + length (w .1)) h′ (r .1),
+    )
 
-pub length-layAll : (ps : List Part) (b : List ℕ) (f n : ℕ) → length b ≡ n → Ordered f ps n → length (layAll b ps) ≡ n
-length-layAll [] b f n e o = e
-length-layAll (p ∷ ps) b f n e o =
-    length-layAll ps (lay (p .stride) b (p .at) (p .rows)) (end p) n
-    (length-lay (p .stride) (p .rows) b (p .at) (o .1) (omega (arith, ordered-end ps (end p) n (o .2))) ∙ e) (o .2)
+pub rising-append : (f e : ℕ) (ws vs : List (ℕ × List ℕ)) → Rising f ws → Every (Inside e) ws → f ≤ e → Rising e vs → Rising f (ws ++ vs)
+rising-append f e [] vs r h l s = rising-down e f vs l s
+rising-append f e (w ∷ ws) vs r h l s = (r .0, rising-append (w .0 + length (w .1)) e ws vs (r .1) (h .1) (h .0) s)
 
--- a table that ends before the first part stays
-pub layAll-before : (ps : List Part) (b : List ℕ) (f n : ℕ) → length b ≡ n → Ordered f ps n → (at stride k m : ℕ) → m ≤ stride → at + stride * k ≤ f
-    → grid (layAll b ps) at stride k m ≡ grid b at stride k m
-layAll-before [] b f n e o at stride k m hm h = refl
-layAll-before (p ∷ ps) b f n e o at stride k m hm h =
-    let fit : end p ≤ length b = omega (arith, ordered-end ps (end p) n (o .2)) in
-    layAll-before ps (lay (p .stride) b (p .at) (p .rows)) (end p) n (length-lay (p .stride) (p .rows) b (p .at) (o .1) fit ∙ e) (o .2) at stride k m hm (omega (arith, o .0))
-    ∙ lay-elsewhere (p .stride) (p .rows) b (p .at) at stride k m (o .1) fit hm (inl (omega (arith, o .0)))
+-- ---- the rows of a table, by their number
 
--- each part is read back
-pub layAll-part : (ps : List Part) (b : List ℕ) (f n : ℕ) → length b ≡ n → Ordered f ps n → (i m : ℕ) (d : Part) → i < length ps
-    → Every (λ r. length r ≡ m) (getD ps i d .rows) → m ≤ getD ps i d .stride
-    → grid (layAll b ps) (getD ps i d .at) (getD ps i d .stride) (length (getD ps i d .rows)) m ≡ getD ps i d .rows
-layAll-part [] b f n e o i m d h q hm = absurd (not-suc-le-zero h)
-layAll-part (p ∷ ps) b f n e o zero m d h q hm =
-    let fit : end p ≤ length b = omega (arith, ordered-end ps (end p) n (o .2)) in
-    layAll-before ps (lay (p .stride) b (p .at) (p .rows)) (end p) n (length-lay (p .stride) (p .rows) b (p .at) (o .1) fit ∙ e) (o .2)
-    (p .at) (p .stride) (length (p .rows)) m hm (le-refl _)
-    ∙ lay-grid (p .stride) (length (p .rows)) m hm (p .rows) b (p .at) refl q fit
-layAll-part (p ∷ ps) b f n e o (suc i) m d h q hm =
-    let fit : end p ≤ length b = omega (arith, ordered-end ps (end p) n (o .2)) in
-    layAll-part ps (lay (p .stride) b (p .at) (p .rows)) (end p) n (length-lay (p .stride) (p .rows) b (p .at) (o .1) fit ∙ e) (o .2) i m d (le-of-suc-le-suc h) q hm
+-- what holds of row p at its place, for every p
+pub rows-every : (P : ℕ × List ℕ → Type 0) (stride : ℕ) (rs : List (List ℕ)) (at : ℕ) → ((p : ℕ) → p < length rs → P (at + stride * p, row rs p)) → Every P (rowsAt at stride rs)
+rows-every P stride [] at h = tt
+rows-every P stride (r ∷ rs) at h =
+    let e : at + stride * 0 ≡ at = omega (arith, mul-zero stride) in
+    (
+      subst (λ (k : ℕ). P (k, r)) e (h 0 (omega arith)),
+      rows-every P stride rs (at + stride) (λ p l. let q : at + stride * suc p ≡ at + stride + stride * p = omega (arith, mul-suc stride p) in
+      subst (λ (k : ℕ). P (k, row rs p)) q (h (suc p) (suc-le-suc l))),
+    )
+
+pub rows-at : (P : ℕ × List ℕ → Type 0) (stride : ℕ) (rs : List (List ℕ)) (at : ℕ) → Every P (rowsAt at stride rs) → (p : ℕ) → p < length rs → P (at + stride * p, row rs p)
+rows-at P stride [] at h p l = absurd (not-suc-le-zero l)
+rows-at P stride (r ∷ rs) at h zero l = let e : at + stride * 0 ≡ at = omega (arith, mul-zero stride) in subst (λ (k : ℕ). P (k, r)) (sym e) (h .0)
+rows-at P stride (r ∷ rs) at h (suc p) l =
+    let q : at + stride * suc p ≡ at + stride + stride * p = omega (arith, mul-suc stride p) in
+    subst (λ (k : ℕ). P (k, row rs p)) (sym q) (rows-at P stride rs (at + stride) (h .1) p (le-of-suc-le-suc l))
+
+-- rows no longer than their stride do not overlap
+pub rows-rising : (stride : ℕ) (rs : List (List ℕ)) (at : ℕ) → Every (λ r. length r ≤ stride) rs → Rising at (rowsAt at stride rs)
+rows-rising stride [] at h = tt
+rows-rising stride (r ∷ rs) at h = (le-refl at, rising-down (at + stride) (at + length r) (rowsAt (at + stride) stride rs) (omega (arith, h .0)) (rows-rising stride rs (at + stride) (h .1)))

@@ -3,7 +3,6 @@ use Prim.Native.Nat.{ℕ, _+_, _*_}
 use mathlib.Core.List.{List, [], _∷_, _++_}
 use lib.ListN.{length, take, drop}
 use Rattle.lists.specs.Tables.{table}
-use Rattle.lists.specs.Folds.{foldl}
 
 -- n cells from a place on
 abbrev pub block : List ℕ → ℕ → ℕ → List ℕ
@@ -17,18 +16,12 @@ grid b at stride n m = table n (λ p. block b (at + stride * p) m)
 abbrev pub over : List ℕ → ℕ → List ℕ → List ℕ
 over b at r = take at b ++ (r ++ drop (at + length r) b)
 
--- rows written so that `grid` reads them
-abbrev pub lay : ℕ → List ℕ → ℕ → List (List ℕ) → List ℕ
-lay stride b at [] = b
-lay stride b at (r ∷ rs) = lay stride (over b at r) (at + stride) rs
+-- the rows of a table with the places where `grid` reads them
+abbrev pub rowsAt : ℕ → ℕ → List (List ℕ) → List (ℕ × List ℕ)
+rowsAt at stride [] = []
+rowsAt at stride (r ∷ rs) = (at, r) ∷ rowsAt (at + stride) stride rs
 
--- a table's place in a list of cells
-pub record Part : Type 0 where
-  pub at : ℕ
-  pub stride : ℕ
-  pub rows : List (List ℕ)
-
--- the parts written one after the other
-abbrev pub layAll : List ℕ → List Part → List ℕ
-layAll b [] = b
-layAll b (p ∷ ps) = layAll (lay (p .stride) b (p .at) (p .rows)) ps
+-- rows written at their places
+abbrev pub written : List ℕ → List (ℕ × List ℕ) → List ℕ
+written b [] = b
+written b (w ∷ ws) = written (over b (w .0) (w .1)) ws

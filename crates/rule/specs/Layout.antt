@@ -8,7 +8,7 @@ use lib.Dec.{ltb, eqb}
 use Rattle.lists.specs.Tests.{pick}
 use Rattle.lists.specs.Tables.{upTo, table, zeros, row, cell}
 use Rattle.lists.specs.Folds.{joined}
-use Rattle.lists.specs.Parts.{grid, over, Part, layAll}
+use Rattle.lists.specs.Parts.{grid, over, rowsAt, written}
 use Rattle.rule.specs.Value.{Terms}
 use Rattle.rule.specs.Day.{Given, State, Day, baskets, termsOf, givenOf, opened, traded, noticed}
 use Rattle.rule.specs.Run.{Allocation, allocations, ran, matchList, lineList}
@@ -98,26 +98,24 @@ view b =
 abbrev pub termsRow : Terms → List ℕ
 termsRow t = t .kind ∷ t .price ∷ t .coupon ∷ t .days ∷ t .redeemed ∷ t .interest ∷ []
 
-abbrev pub cubeParts : ℕ → List (List (List ℕ)) → List Part
-cubeParts at marks = map (λ k. record { at = at + 144 * k; stride = 12; rows = row marks k }) (upTo baskets)
+abbrev pub cubeRows : ℕ → List (List (List ℕ)) → List (ℕ × List ℕ)
+cubeRows at marks = joined (table baskets (λ k. rowsAt (at + 144 * k) 12 (row marks k)))
 
-abbrev pub partsOf : Day → List Part
-partsOf y =
-    let g : Given = y .given in
-    let s : State = y .state in
-    record { at = 0; stride = 4; rows = (g .participants ∷ g .issues ∷ s .runs ∷ s .trades ∷ []) ∷ [] }
-    ∷ record { at = codesAt; stride = 12; rows = g .codes }
-    ∷ record { at = termsAt; stride = 6; rows = map termsRow (g .terms) }
-    ∷ record { at = receiptsAt; stride = 32; rows = g .receipts }
-    ∷ (cubeParts pairsAt (g .pairs)
-    ++ (record { at = positionsAt; stride = 12; rows = signedRows (s .owed) (s .due) }
-    ∷ record { at = noticesAt; stride = 32; rows = s .notices }
-    ∷ (cubeParts todayAt (s .today)
-    ++ (record { at = tallyAt; stride = 32; rows = signedRows (s .delivered) (s .received) }
-    ∷ []))))
+-- the rows of a day with their places
+abbrev pub givenRows : Given → List (ℕ × List ℕ)
+givenRows g =
+    rowsAt codesAt 12 (g .codes) ++ (rowsAt termsAt 6 (map termsRow (g .terms)) ++ (rowsAt receiptsAt 32 (g .receipts) ++ cubeRows pairsAt (g .pairs)))
+
+abbrev pub stateRows : State → List (ℕ × List ℕ)
+stateRows s =
+    rowsAt positionsAt 12 (signedRows (s .owed) (s .due))
+    ++ (rowsAt noticesAt 32 (s .notices) ++ (cubeRows todayAt (s .today) ++ rowsAt tallyAt 32 (signedRows (s .delivered) (s .received))))
 
 unfoldable pub stored : List ℕ → Day → List ℕ
-stored b y = layAll b (partsOf y)
+stored b y =
+    let g : Given = y .given in
+    let s : State = y .state in
+    written b ((0, g .participants ∷ g .issues ∷ s .runs ∷ s .trades ∷ []) ∷ (givenRows g ++ stateRows s))
 
 -- ---- the public calls: the reply, and the book and the lent lists afterwards
 
