@@ -1,20 +1,20 @@
 -- Laws of folds, sums and of what holds of every entry. Assumes nothing.
-use mathlib.Core.Path.{_≡_, refl, sym, ap, _∙_}
+use mathlib.Core.Path.{_≡_, refl, sym, ap, _∙_, subst}
 use mathlib.Core.Logic.{_⊎_, inl, inr}
 use Prim.Native.Nat.{ℕ, zero, suc, _+_, _-_, _*_, _≤_, _<_, suc-le-suc}
-use native.Mathlib.Nat.{not-suc-le-zero, zero-sub, suc-mul}
+use native.Mathlib.Nat.{not-suc-le-zero, le-of-suc-le-suc, zero-sub, suc-mul}
 use native.Mathlib.Decide.{ℕ-discrete}
 use native.Mathlib.Numerals.{add-one}
 use native.Mathlib.Omega.{arith}
 use mathlib.Core.Bool.{Bool, true, false}
-use mathlib.Core.List.{List, [], _∷_, _++_, List·Memᴰ, List·Memᴰ·head, List·Memᴰ·tail, List·Memᴰ·cases-cons, List·Memᴰ·not-nil}
+use mathlib.Core.List.{List, [], _∷_, _++_, map, List·Memᴰ, List·Memᴰ·head, List·Memᴰ·tail, List·Memᴰ·cases-cons, List·Memᴰ·not-nil}
 use lib.ListN.{length, getD, take}
 use lib.Seq.{take-suc}
 use lib.Dec.{eqb}
 use borrow.Author.Tests.{ne-eqb}
 use Rattle.lists.specs.Tests.{pick}
-use Rattle.lists.specs.Tables.{from, less}
-use Rattle.lists.specs.Folds.{foldl, total, sum, Every}
+use Rattle.lists.specs.Tables.{from, table, less}
+use Rattle.lists.specs.Folds.{foldl, total, sum, joined, Every}
 use Rattle.lists.proofs.TestLaws.{pick-no}
 
 -- ---- folds
@@ -125,3 +125,35 @@ every-mem P a (x ∷ xs) h m = go (List·Memᴰ·cases-cons m) (every-mem P a xs
     go : (a ≡ x) ⊎ List·Memᴰ a xs → (List·Memᴰ a xs → P a) → P a
     go (inl e) f = rw e (h .0)
     go (inr k) f = f k
+
+-- what holds of each entry by its number
+pub every-index : {A : Type 0} (P : A → Type 0) (d : A) (xs : List A) → ((i : ℕ) → i < length xs → P (getD xs i d)) → Every P xs
+every-index P d [] h = tt
+every-index P d (x ∷ xs) h = (h 0 (omega arith), every-index P d xs (λ i l. h (suc i) (suc-le-suc l)))
+
+pub every-left : {A : Type 0} (P : A → Type 0) (xs ys : List A) → Every P (xs ++ ys) → Every P xs
+every-left P [] ys h = tt
+every-left P (x ∷ xs) ys h = (h .0, every-left P xs ys (h .1))
+
+pub every-right : {A : Type 0} (P : A → Type 0) (xs ys : List A) → Every P (xs ++ ys) → Every P ys
+every-right P [] ys h = h
+every-right P (x ∷ xs) ys h = every-right P xs ys (h .1)
+
+-- lists joined, one for each of n numbers
+joined-from : {A : Type 0} (P : A → Type 0) (f : ℕ → List A) (k n : ℕ) → ((i : ℕ) → k ≤ i → i < k + n → Every P (f i)) → Every P (joined (map f (from k n)))
+joined-from P f k zero h = tt
+joined-from P f k (suc n) h =
+    every-append P (f k) (joined (map f (from (suc k) n))) (h k (omega arith) (omega arith)) (joined-from P f (suc k) n (λ i a b. h i (omega arith) (omega arith)))
+
+pub every-joined : {A : Type 0} (P : A → Type 0) (n : ℕ) (f : ℕ → List A) → ((i : ℕ) → i < n → Every P (f i)) → Every P (joined (table n f))
+every-joined P n f h = joined-from P f 0 n (λ i a b. h i (omega arith))
+
+joined-from-at : {A : Type 0} (P : A → Type 0) (f : ℕ → List A) (k n : ℕ) → Every P (joined (map f (from k n))) → (i : ℕ) → i < n → Every P (f (k + i))
+joined-from-at P f k zero h i l = absurd (not-suc-le-zero l)
+joined-from-at P f k (suc n) h zero l = let e : k ≡ k + 0 = omega arith in subst (λ (j : ℕ). Every P (f j)) e (every-left P (f k) _ h)
+joined-from-at P f k (suc n) h (suc i) l =
+    let e : suc k + i ≡ k + suc i = omega arith in
+    subst (λ (j : ℕ). Every P (f j)) e (joined-from-at P f (suc k) n (every-right P (f k) _ h) i (le-of-suc-le-suc l))
+
+pub joined-at : {A : Type 0} (P : A → Type 0) (n : ℕ) (f : ℕ → List A) → Every P (joined (table n f)) → (i : ℕ) → i < n → Every P (f i)
+joined-at P n f h i l = let e : 0 + i ≡ i = omega arith in subst (λ (j : ℕ). Every P (f j)) e (joined-from-at P f 0 n h i l)

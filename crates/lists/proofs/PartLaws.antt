@@ -10,9 +10,9 @@ use lib.ListN.{length, getD, take, drop, set, length-set, length-append, length-
 use lib.Seq.{ext-getD, getD-take, getD-drop, length-take-le, drop-at, take-append-seam, getD-append-add, getD-set-same, getD-set-other, drop-drop, drop-set-add, drop-set-lt, take-set-lt, take-set-le}
 use borrow.Rule.Slice.PartMut.{putMid}
 use Rattle.lists.specs.Tables.{from, table, row, cell, put}
-use Rattle.lists.specs.Folds.{Every}
+use Rattle.lists.specs.Folds.{joined, Every}
 use Rattle.lists.specs.Parts.{block, grid, over, rowsAt, written}
-use Rattle.lists.proofs.FoldLaws.{every-map, every-from}
+use Rattle.lists.proofs.FoldLaws.{every-from, every-index}
 use Rattle.lists.proofs.TableLaws.{length-table, getD-table}
 
 -- ---- a part of a slice, `&xs[a..a + n]`, as the borrow checker states it
@@ -253,3 +253,70 @@ rows-at P stride (r ∷ rs) at h (suc p) l =
 pub rows-rising : (stride : ℕ) (rs : List (List ℕ)) (at : ℕ) → Every (λ r. length r ≤ stride) rs → Rising at (rowsAt at stride rs)
 rows-rising stride [] at h = tt
 rows-rising stride (r ∷ rs) at h = (le-refl at, rising-down (at + stride) (at + length r) (rowsAt (at + stride) stride rs) (omega (arith, h .0)) (rows-rising stride rs (at + stride) (h .1)))
+
+-- tables one after the other, a fixed number of cells apart
+rising-from : (f : ℕ → List (ℕ × List ℕ)) (at apart k n : ℕ) → ((i : ℕ) → k ≤ i → i < k + n → Rising (at + apart * i) (f i) × Every (Inside (at + apart * suc i)) (f i))
+    → Rising (at + apart * k) (joined (map f (from k n)))
+rising-from f at apart k zero h = tt
+rising-from f at apart k (suc n) h =
+    rising-append (at + apart * k) (at + apart * suc k) (f k) _ (h k (omega arith) (omega arith) .0) (h k (omega arith) (omega arith) .1)
+    (omega (arith, mul-suc apart k)) (rising-from f at apart (suc k) n (λ i a b. h i (omega arith) (omega arith)))
+
+pub rising-joined : (n : ℕ) (f : ℕ → List (ℕ × List ℕ)) (at apart : ℕ) → ((i : ℕ) → i < n → Rising (at + apart * i) (f i) × Every (Inside (at + apart * suc i)) (f i))
+    → Rising at (joined (table n f))
+rising-joined n f at apart h =
+    let e : at + apart * 0 ≡ at = omega (arith, mul-zero apart) in
+    subst (λ (k : ℕ). Rising k (joined (table n f))) e (rising-from f at apart 0 n (λ i a b. h i (omega arith)))
+
+-- ---- tables by their cells
+
+-- n rows of m cells
+pub record Shape (t : List (List ℕ)) (n m : ℕ) : Type 0 where
+  pub rows : length t ≡ n
+  pub cells : (p : ℕ) → p < n → length (row t p) ≡ m
+
+-- the table's cells stand in the list, rows a stride apart
+abbrev pub Stands : List ℕ → ℕ → ℕ → ℕ → ℕ → List (List ℕ) → Type 0
+Stands b at stride n m t = (p i : ℕ) → p < n → i < m → getD b (at + stride * p + i) 0 ≡ cell t p i
+
+module _ (b : List ℕ) (at stride n m : ℕ) (t : List (List ℕ)) (s : Shape t n m) where
+  pub stands-reads : m ≤ stride → at + stride * n ≤ length b → Stands b at stride n m t → Every (Reads b) (rowsAt at stride t)
+  stands-reads wide fit h = rows-every (Reads b) stride t at (λ p l.
+      let p′ : p < n = omega (arith, s .rows) in
+      let e : length (row t p) ≡ m = s .cells p p′ in
+      let room : at + stride * p + m ≤ length b = omega (arith, mul-le-mul-left stride p′, mul-suc stride p) in
+      rw e (ext-getD 0 (block b (at + stride * p) m) (row t p) (length-block b (at + stride * p) m room ∙ sym e)
+      (λ i k. let k′ : i < m = omega (arith, length-block b (at + stride * p) m room) in block-get b (at + stride * p) m i k′ ∙ h p i p′ k′)))
+
+  pub reads-stands : Every (Reads b) (rowsAt at stride t) → Stands b at stride n m t
+  reads-stands h p i l k =
+      let e : length (row t p) ≡ m = s .cells p l in
+      let r : block b (at + stride * p) (length (row t p)) ≡ row t p = rows-at (Reads b) stride t at h p (omega (arith, s .rows)) in
+      sym (block-get b (at + stride * p) (length (row t p)) i (omega arith)) ∙ ap (λ (l : List ℕ). getD l i 0) r
+
+  pub rows-inside : (e : ℕ) → m ≤ stride → at + stride * n ≤ e → Every (Inside e) (rowsAt at stride t)
+  rows-inside e wide fit = rows-every (Inside e) stride t at (λ p l.
+      let p′ : p < n = omega (arith, s .rows) in omega (arith, s .cells p p′, mul-le-mul-left stride p′, mul-suc stride p))
+
+  pub rows-rise : m ≤ stride → Rising at (rowsAt at stride t)
+  rows-rise wide = rows-rising stride t at (every-index (λ r. length r ≤ stride) [] t (λ p l. omega (arith, s .cells p (omega (arith, s .rows)))))
+
+  -- a table that stands is the grid that is read
+  pub stands-grid : m ≤ stride → at + stride * n ≤ length b → Stands b at stride n m t → grid b at stride n m ≡ t
+  stands-grid wide fit h = ext-getD [] (grid b at stride n m) t (length-table n _ ∙ sym (s .rows))
+      (λ p l.
+      let p′ : p < n = omega (arith, length-table n (λ q. block b (at + stride * q) m)) in
+      let room : at + stride * p + m ≤ length b = omega (arith, mul-le-mul-left stride p′, mul-suc stride p) in
+      getD-table n (λ q. block b (at + stride * q) m) p [] p′
+      ∙ ext-getD 0 (block b (at + stride * p) m) (row t p) (length-block b (at + stride * p) m room ∙ sym (s .cells p p′))
+      (λ i k. let k′ : i < m = omega (arith, length-block b (at + stride * p) m room) in block-get b (at + stride * p) m i k′ ∙ h p i p′ k′))
+
+-- a grid that is read has its shape, and stands
+pub grid-shape : (b : List ℕ) (at stride n m : ℕ) → m ≤ stride → at + stride * n ≤ length b → Shape (grid b at stride n m) n m
+grid-shape b at stride n m wide fit = record {
+  rows = length-table n _;
+  cells = λ p l. rw (getD-table n (λ q. block b (at + stride * q) m) p [] l) (length-block b (at + stride * p) m (omega (arith, mul-le-mul-left stride l, mul-suc stride p)));
+}
+
+pub grid-stands : (b : List ℕ) (at stride n m : ℕ) → Stands b at stride n m (grid b at stride n m)
+grid-stands b at stride n m p i l k = sym (grid-get b at stride n m p i l k)

@@ -111,11 +111,12 @@ stateRows s =
     rowsAt positionsAt 12 (signedRows (s .owed) (s .due))
     ++ (rowsAt noticesAt 32 (s .notices) ++ (cubeRows todayAt (s .today) ++ rowsAt tallyAt 32 (signedRows (s .delivered) (s .received))))
 
+abbrev pub rowsOf : Day → List (ℕ × List ℕ)
+rowsOf y =
+    (0, y .given .participants ∷ y .given .issues ∷ y .state .runs ∷ y .state .trades ∷ []) ∷ (givenRows (y .given) ++ stateRows (y .state))
+
 unfoldable pub stored : List ℕ → Day → List ℕ
-stored b y =
-    let g : Given = y .given in
-    let s : State = y .state in
-    written b ((0, g .participants ∷ g .issues ∷ s .runs ∷ s .trades ∷ []) ∷ (givenRows g ++ stateRows s))
+stored b y = written b (rowsOf y)
 
 -- ---- the public calls: the reply, and the book and the lent lists afterwards
 
