@@ -139,7 +139,16 @@ pub every-right : {A : Type 0} (P : A → Type 0) (xs ys : List A) → Every P (
 every-right P [] ys h = h
 every-right P (x ∷ xs) ys h = every-right P xs ys (h .1)
 
--- lists joined, one for each of n numbers
+-- lists joined
+pub every-join : {A : Type 0} (P : A → Type 0) (ls : List (List A)) → Every (Every P) ls → Every P (joined ls)
+every-join P [] h = tt
+every-join P (l ∷ ls) h = every-append P l (joined ls) (h .0) (every-join P ls (h .1))
+
+pub every-parts : {A : Type 0} (P : A → Type 0) (ls : List (List A)) → Every P (joined ls) → Every (Every P) ls
+every-parts P [] h = tt
+every-parts P (l ∷ ls) h = (every-left P l (joined ls) h, every-parts P ls (every-right P l (joined ls) h))
+
+-- one for each of n numbers
 joined-from : {A : Type 0} (P : A → Type 0) (f : ℕ → List A) (k n : ℕ) → ((i : ℕ) → k ≤ i → i < k + n → Every P (f i)) → Every P (joined (map f (from k n)))
 joined-from P f k zero h = tt
 joined-from P f k (suc n) h =

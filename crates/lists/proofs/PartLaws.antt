@@ -254,7 +254,16 @@ pub rows-rising : (stride : ℕ) (rs : List (List ℕ)) (at : ℕ) → Every (λ
 rows-rising stride [] at h = tt
 rows-rising stride (r ∷ rs) at h = (le-refl at, rising-down (at + stride) (at + length r) (rowsAt (at + stride) stride rs) (omega (arith, h .0)) (rows-rising stride rs (at + stride) (h .1)))
 
--- tables one after the other, a fixed number of cells apart
+-- tables one after the other, each within its end
+abbrev pub Chain : ℕ → List (ℕ × List (ℕ × List ℕ)) → Type 0
+Chain f [] = Unit {0}
+Chain f (t ∷ ts) = Rising f (t .1) × Every (Inside (t .0)) (t .1) × (f ≤ t .0) × Chain (t .0) ts
+
+pub rising-chain : (f : ℕ) (ts : List (ℕ × List (ℕ × List ℕ))) → Chain f ts → Rising f (joined (map (λ t. t .1) ts))
+rising-chain f [] c = tt
+rising-chain f (t ∷ ts) c = rising-append f (t .0) (t .1) (joined (map (λ t. t .1) ts)) (c .0) (c .1) (c .2) (rising-chain (t .0) ts (c .3))
+
+-- a fixed number of cells apart
 rising-from : (f : ℕ → List (ℕ × List ℕ)) (at apart k n : ℕ) → ((i : ℕ) → k ≤ i → i < k + n → Rising (at + apart * i) (f i) × Every (Inside (at + apart * suc i)) (f i))
     → Rising (at + apart * k) (joined (map f (from k n)))
 rising-from f at apart k zero h = tt

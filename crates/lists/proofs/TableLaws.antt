@@ -30,6 +30,12 @@ getD-from f k (suc n) (suc i) d h = getD-from f (suc k) n i d (le-of-suc-le-suc 
 pub getD-table : {A : Type 0} (n : ℕ) (f : ℕ → A) (i : ℕ) (d : A) → i < n → getD (table n f) i d ≡ f i
 getD-table n f i d h = getD-from f 0 n i d h ∙ ap f (omega arith)
 
+-- an entry of a list to which f was applied
+pub getD-map : {A B : Type 0} (f : A → B) (xs : List A) (i : ℕ) (d : A) (e : B) → i < length xs → getD (map f xs) i e ≡ f (getD xs i d)
+getD-map f [] i d e h = absurd (not-suc-le-zero h)
+getD-map f (x ∷ xs) zero d e h = refl
+getD-map f (x ∷ xs) (suc i) d e h = getD-map f xs i d e (le-of-suc-le-suc h)
+
 zero-from : (k n i : ℕ) → getD {A = ℕ} (map (λ (j : ℕ). 0) (from k n)) i 0 ≡ 0
 zero-from k zero i = refl
 zero-from k (suc n) zero = refl

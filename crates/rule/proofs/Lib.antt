@@ -10,3 +10,4 @@ pub mod MatchingLaws
 pub mod DrawLaws
 pub mod FillingLaws
 pub mod FilledLaws
+pub mod LayoutLaws

@@ -101,22 +101,24 @@ termsRow t = t .kind ∷ t .price ∷ t .coupon ∷ t .days ∷ t .redeemed ∷ 
 abbrev pub cubeRows : ℕ → List (List (List ℕ)) → List (ℕ × List ℕ)
 cubeRows at marks = joined (table baskets (λ k. rowsAt (at + 144 * k) 12 (row marks k)))
 
--- the rows of a day with their places
-abbrev pub givenRows : Given → List (ℕ × List ℕ)
-givenRows g =
-    rowsAt codesAt 12 (g .codes) ++ (rowsAt termsAt 6 (map termsRow (g .terms)) ++ (rowsAt receiptsAt 32 (g .receipts) ++ cubeRows pairsAt (g .pairs)))
-
-abbrev pub stateRows : State → List (ℕ × List ℕ)
-stateRows s =
-    rowsAt positionsAt 12 (signedRows (s .owed) (s .due))
-    ++ (rowsAt noticesAt 32 (s .notices) ++ (cubeRows todayAt (s .today) ++ rowsAt tallyAt 32 (signedRows (s .delivered) (s .received))))
-
-abbrev pub rowsOf : Day → List (ℕ × List ℕ)
-rowsOf y =
-    (0, y .given .participants ∷ y .given .issues ∷ y .state .runs ∷ y .state .trades ∷ []) ∷ (givenRows (y .given) ++ stateRows (y .state))
+-- the tables of a day, rows with their places; the sizes and counts are one row
+abbrev pub tablesOf : Day → List (List (ℕ × List ℕ))
+tablesOf y =
+    let g : Given = y .given in
+    let s : State = y .state in
+    ((0, g .participants ∷ g .issues ∷ s .runs ∷ s .trades ∷ []) ∷ [])
+    ∷ rowsAt codesAt 12 (g .codes)
+    ∷ rowsAt termsAt 6 (map termsRow (g .terms))
+    ∷ rowsAt receiptsAt 32 (g .receipts)
+    ∷ cubeRows pairsAt (g .pairs)
+    ∷ rowsAt positionsAt 12 (signedRows (s .owed) (s .due))
+    ∷ rowsAt noticesAt 32 (s .notices)
+    ∷ cubeRows todayAt (s .today)
+    ∷ rowsAt tallyAt 32 (signedRows (s .delivered) (s .received))
+    ∷ []
 
 unfoldable pub stored : List ℕ → Day → List ℕ
-stored b y = written b (rowsOf y)
+stored b y = written b (joined (tablesOf y))
 
 -- ---- the public calls: the reply, and the book and the lent lists afterwards
 
