@@ -11,3 +11,4 @@ pub mod DrawLaws
 pub mod FillingLaws
 pub mod FilledLaws
 pub mod LayoutLaws
+pub mod SoundLaws
