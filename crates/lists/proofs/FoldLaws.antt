@@ -8,7 +8,7 @@ use native.Mathlib.Numerals.{add-one}
 use native.Mathlib.Omega.{arith}
 use mathlib.Core.Bool.{Bool, true, false}
 use mathlib.Core.List.{List, [], _∷_, _++_, map, List·Memᴰ, List·Memᴰ·head, List·Memᴰ·tail, List·Memᴰ·cases-cons, List·Memᴰ·not-nil}
-use lib.ListN.{length, getD, take}
+use lib.ListN.{length, getD, set, take}
 use lib.Seq.{take-suc}
 use lib.Dec.{eqb}
 use borrow.Author.Tests.{ne-eqb}
@@ -65,6 +65,12 @@ pub total-less : (f : ℕ → ℕ) (l : List ℕ) (i x : ℕ) → total f (less 
 total-less f [] i x = rw (zero-sub x)
 total-less f (y ∷ ys) zero x = omega arith
 total-less f (y ∷ ys) (suc i) x = omega (arith, total-less f ys i x)
+
+-- one cell replaced
+pub sum-set : (l : List ℕ) (i v : ℕ) → i < length l → sum (set l i v) + getD l i 0 ≡ sum l + v
+sum-set [] i v h = absurd (not-suc-le-zero h)
+sum-set (x ∷ xs) zero v h = omega arith
+sum-set (x ∷ xs) (suc i) v h = omega (arith, sum-set xs i v (le-of-suc-le-suc h))
 
 pub total-at : (f : ℕ → ℕ) → f 0 ≡ 0 → (l : List ℕ) (i : ℕ) → f (getD l i 0) ≤ total f l
 total-at f z [] i = omega arith

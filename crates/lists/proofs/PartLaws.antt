@@ -329,3 +329,34 @@ grid-shape b at stride n m wide fit = record {
 
 pub grid-stands : (b : List ℕ) (at stride n m : ℕ) → Stands b at stride n m (grid b at stride n m)
 grid-stands b at stride n m p i l k = sym (grid-get b at stride n m p i l k)
+
+-- ---- one cell of a table replaced
+
+module _ (t : List (List ℕ)) (n m : ℕ) (s : Shape t n m) (p i v : ℕ) (hp : p < n) (hi : i < m) where
+  pub put-row : row (put t p i v) p ≡ set (row t p) i v
+  put-row = getD-set-same t p (set (row t p) i v) [] (omega (arith, s .rows))
+
+  pub put-row-other : (q : ℕ) → q ≢ p → row (put t p i v) q ≡ row t q
+  put-row-other q ne = getD-set-other t p q (set (row t p) i v) [] ne
+
+  pub put-shape : Shape (put t p i v) n m
+  put-shape = record { rows = length-set t p (set (row t p) i v) ∙ s .rows; cells = λ q l. go q l (ℕ-discrete q p) }
+    where
+      go : (q : ℕ) → q < n → Dec (q ≡ p) → length (row (put t p i v) q) ≡ m
+      go q l (yes e) = rw (e, put-row) (length-set (row t p) i v ∙ s .cells p hp)
+      go q l (no ne) = rw (put-row-other q ne) (s .cells q l)
+
+  pub put-same : cell (put t p i v) p i ≡ v
+  put-same = rw put-row (getD-set-same (row t p) i v 0 (omega (arith, s .cells p hp)))
+
+  pub put-other : (q j : ℕ) → (q ≡ p → j ≢ i) → cell (put t p i v) q j ≡ cell t q j
+  put-other q j ne = go (ℕ-discrete q p)
+    where
+      go : Dec (q ≡ p) → cell (put t p i v) q j ≡ cell t q j
+      go (yes e) = rw (e, put-row) (getD-set-other (row t p) i j v 0 (ne e))
+      go (no k) = rw (put-row-other q k) refl
+
+-- a table that stands where the cells have not changed
+pub stands-agree : (b c : List ℕ) (at stride n m : ℕ) (t : List (List ℕ)) → m ≤ stride → ((j : ℕ) → at ≤ j → j < at + stride * n → getD c j 0 ≡ getD b j 0)
+    → Stands b at stride n m t → Stands c at stride n m t
+stands-agree b c at stride n m t wide same h p i l k = same (at + stride * p + i) (omega arith) (omega (arith, mul-le-mul-left stride l, mul-suc stride p)) ∙ h p i l k

@@ -12,3 +12,4 @@ pub mod FillingLaws
 pub mod FilledLaws
 pub mod LayoutLaws
 pub mod SoundLaws
+pub mod TradeLaws
