@@ -19,7 +19,7 @@ use Rattle.lists.specs.Parts.{block, grid, rowsAt, written}
 use Rattle.lists.proofs.TestLaws.{pick-yes, pick-no}
 use Rattle.lists.proofs.FoldLaws.{every-join, every-parts, every-joined, joined-at}
 use Rattle.lists.proofs.TableLaws.{length-table, getD-table, getD-map}
-use Rattle.lists.proofs.PartLaws.{Inside, Outside, Reads, Rising, length-written, written-is, written-out, written-reads, Chain, rising-chain, rising-joined, Shape, Stands, stands-reads, reads-stands, rows-inside, rows-rise, stands-grid, grid-shape, grid-stands, table-agree}
+use Rattle.lists.proofs.PartLaws.{Inside, Outside, Reads, Rising, length-written, written-is, written-out, written-reads, Chain, rising-chain, rising-joined, Shape, Stands, stands-reads, reads-stands, rows-inside, rows-rise, rows-at, stands-agree, stands-grid, grid-shape, grid-stands, table-agree}
 use Rattle.rule.specs.Value.{Terms, noTerms}
 use Rattle.rule.specs.Day.{Given, State, Day, baskets, mark, termsOf}
 use Rattle.rule.specs.Layout.{codesAt, termsAt, receiptsAt, pairsAt, positionsAt, noticesAt, todayAt, tallyAt, bookLength, plus, minus, signed, signedRows, cube, view, termsRow, cubeRows, tablesOf, stored}
@@ -52,16 +52,16 @@ signed-out a b h e = omega arith
 signed-back : (a b : ℕ) → a ≡ 0 → 0 < b → b ≤ half → signed a b ≡ whole - b
 signed-back a b e h l = omega arith
 
-plus-out : (c : ℕ) → c < half → plus c ≡ c
+pub plus-out : (c : ℕ) → c < half → plus c ≡ c
 plus-out c h = pick-yes (ltb c half) c 0 (lt-ltb c half h)
 
-plus-back : (c : ℕ) → half ≤ c → plus c ≡ 0
+pub plus-back : (c : ℕ) → half ≤ c → plus c ≡ 0
 plus-back c h = pick-no (ltb c half) c 0 (le-ltb c half h)
 
-minus-out : (c : ℕ) → c < half → minus c ≡ 0
+pub minus-out : (c : ℕ) → c < half → minus c ≡ 0
 minus-out c h = pick-yes (ltb c half) 0 (whole - c) (lt-ltb c half h)
 
-minus-back : (c : ℕ) → half ≤ c → minus c ≡ whole - c
+pub minus-back : (c : ℕ) → half ≤ c → minus c ≡ whole - c
 minus-back c h = pick-no (ltb c half) 0 (whole - c) (le-ltb c half h)
 
 module _ {a b : ℕ} (s : Signs a b) where
@@ -105,16 +105,20 @@ pub record Shaped (y : Day) : Type 0 where
   pub delivered : Shape (y .state .delivered) (y .given .participants) (y .given .issues)
   pub received : Shape (y .state .received) (y .given .participants) (y .given .issues)
 
+-- the book has the tables that opening brought
+pub record HoldsGiven (b : List ℕ) (g : Given) : Type 0 where
+  pub codes : Stands b codesAt 12 (g .issues) 12 (g .codes)
+  pub terms : Stands b termsAt 6 (g .issues) 6 (map termsRow (g .terms))
+  pub receipts : Stands b receiptsAt 32 (g .participants) (g .issues) (g .receipts)
+  pub pairs : (k : ℕ) → k < 7 → Stands b (pairsAt + 144 * k) 12 (g .participants) (g .participants) (row (g .pairs) k)
+
 -- the book has the day's cells
 pub record Holds (b : List ℕ) (y : Day) : Type 0 where
   pub participants : getD b 0 0 ≡ y .given .participants
   pub issues : getD b 1 0 ≡ y .given .issues
   pub runs : getD b 2 0 ≡ y .state .runs
   pub trades : getD b 3 0 ≡ y .state .trades
-  pub codes : Stands b codesAt 12 (y .given .issues) 12 (y .given .codes)
-  pub terms : Stands b termsAt 6 (y .given .issues) 6 (map termsRow (y .given .terms))
-  pub receipts : Stands b receiptsAt 32 (y .given .participants) (y .given .issues) (y .given .receipts)
-  pub pairs : (k : ℕ) → k < 7 → Stands b (pairsAt + 144 * k) 12 (y .given .participants) (y .given .participants) (row (y .given .pairs) k)
+  pub given : HoldsGiven b (y .given)
   pub positions : Stands b positionsAt 12 7 (y .given .participants) (signedRows (y .state .owed) (y .state .due))
   pub notices : Stands b noticesAt 32 (y .given .participants) (y .given .issues) (y .state .notices)
   pub today : (k : ℕ) → k < 7 → Stands b (todayAt + 144 * k) 12 (y .given .participants) (y .given .participants) (row (y .state .today) k)
@@ -323,13 +327,13 @@ module _ (y : Day) (s : Shaped y) where
       (
         (four b (omega arith) ∙ (λ k. h .participants k ∷ h .issues k ∷ h .runs k ∷ h .trades k ∷ []), tt),
         (
-          stands-reads b codesAt 12 m 12 (y .given .codes) (s .codes) (omega arith) (omega (arith, s .most)) (h .codes),
+          stands-reads b codesAt 12 m 12 (y .given .codes) (s .codes) (omega arith) (omega (arith, s .most)) (h .given .codes),
           (
-            stands-reads b termsAt 6 m 6 termRows term-shape (omega arith) (omega (arith, s .most)) (h .terms),
+            stands-reads b termsAt 6 m 6 termRows term-shape (omega arith) (omega (arith, s .most)) (h .given .terms),
             (
-              stands-reads b receiptsAt 32 n m (y .given .receipts) (s .receipts) (s .most) (omega (arith, s .few)) (h .receipts),
+              stands-reads b receiptsAt 32 n m (y .given .receipts) (s .receipts) (s .most) (omega (arith, s .few)) (h .given .receipts),
               (
-                cube-reads b pairsAt (y .given .pairs) (s .pairs) (omega arith) (h .pairs),
+                cube-reads b pairsAt (y .given .pairs) (s .pairs) (omega arith) (h .given .pairs),
                 (
                   stands-reads b positionsAt 12 7 n positionRows position-shape (s .few) (omega arith) (h .positions),
                   (
@@ -355,10 +359,12 @@ module _ (y : Day) (s : Shaped y) where
         issues = ap (λ (l : List ℕ). getD l 1 0) head;
         runs = ap (λ (l : List ℕ). getD l 2 0) head;
         trades = ap (λ (l : List ℕ). getD l 3 0) head;
-        codes = reads-stands b codesAt 12 m 12 (y .given .codes) (s .codes) (r .1 .0);
-        terms = reads-stands b termsAt 6 m 6 termRows term-shape (r .1 .1 .0);
-        receipts = reads-stands b receiptsAt 32 n m (y .given .receipts) (s .receipts) (r .1 .1 .1 .0);
-        pairs = cube-stands b pairsAt (y .given .pairs) (s .pairs) (r .1 .1 .1 .1 .0);
+        given = record {
+          codes = reads-stands b codesAt 12 m 12 (y .given .codes) (s .codes) (r .1 .0);
+          terms = reads-stands b termsAt 6 m 6 termRows term-shape (r .1 .1 .0);
+          receipts = reads-stands b receiptsAt 32 n m (y .given .receipts) (s .receipts) (r .1 .1 .1 .0);
+          pairs = cube-stands b pairsAt (y .given .pairs) (s .pairs) (r .1 .1 .1 .1 .0);
+        };
         positions = reads-stands b positionsAt 12 7 n positionRows position-shape (r .1 .1 .1 .1 .1 .0);
         notices = reads-stands b noticesAt 32 n m (y .state .notices) (s .notices) (r .1 .1 .1 .1 .1 .1 .0);
         today = cube-stands b todayAt (y .state .today) (s .today) (r .1 .1 .1 .1 .1 .1 .1 .0);
@@ -390,6 +396,36 @@ module _ (y : Day) (s : Shaped y) where
     unfolding stored
     stored-out j h = written-out (joined (tablesOf y)) b j inside h
 
+    -- a place outside the day's tables is outside each row
+    module _ (j : ℕ) (q : Every (Outside j) (joined (tablesOf y))) where
+      parts : Every (Every (Outside j)) (tablesOf y)
+      parts = every-parts (Outside j) (tablesOf y) q
+
+      pub outside-sizes : 4 ≤ j
+      outside-sizes = past (parts .0 .0)
+        where
+          past : (j < 0) ⊎ (4 ≤ j) → 4 ≤ j
+          past (inl h) = absurd (omega arith)
+          past (inr h) = h
+
+      of-row : (at stride p k l : ℕ) (t : List (List ℕ)) → Shape t k l → p < k → Every (Outside j) (rowsAt at stride t) → (j < at + stride * p) ⊎ (at + stride * p + l ≤ j)
+      of-row at stride p k l t c h v =
+          subst (λ (i : ℕ). (j < at + stride * p) ⊎ (at + stride * p + i ≤ j)) (c .cells p h) (rows-at (Outside j) stride t at v p (omega (arith, c .rows)))
+
+      pub outside-position : (k : ℕ) → k < 7 → (j < positionsAt + 12 * k) ⊎ (positionsAt + 12 * k + n ≤ j)
+      outside-position k h = of-row positionsAt 12 k 7 n positionRows position-shape h (parts .1 .1 .1 .1 .1 .0)
+
+      pub outside-notice : (p : ℕ) → p < n → (j < noticesAt + 32 * p) ⊎ (noticesAt + 32 * p + m ≤ j)
+      outside-notice p h = of-row noticesAt 32 p n m (y .state .notices) (s .notices) h (parts .1 .1 .1 .1 .1 .1 .0)
+
+      pub outside-pair : (k p : ℕ) → k < 7 → p < n → (j < todayAt + 144 * k + 12 * p) ⊎ (todayAt + 144 * k + 12 * p + n ≤ j)
+      outside-pair k p l h =
+          of-row (todayAt + 144 * k) 12 p n n (row (y .state .today) k) (s .today k l) h
+          (joined-at (Outside j) 7 (λ k. rowsAt (todayAt + 144 * k) 12 (row (y .state .today) k)) (parts .1 .1 .1 .1 .1 .1 .1 .0) k l)
+
+      pub outside-tally : (p : ℕ) → p < n → (j < tallyAt + 32 * p) ⊎ (tallyAt + 32 * p + m ≤ j)
+      outside-tally p h = of-row tallyAt 32 p n m tallyRows tally-shape h (parts .1 .1 .1 .1 .1 .1 .1 .1 .0)
+
   -- ---- what a book that has the day's cells is viewed as
 
   pub record Signed : Type 0 where
@@ -416,14 +452,14 @@ module _ (y : Day) (s : Shaped y) where
         let en : getD b 0 0 ≡ n = h .participants in
         let em : getD b 1 0 ≡ m = h .issues in
         let codes : grid b codesAt 12 (getD b 1 0) 12 ≡ y .given .codes =
-        ap (λ (j : ℕ). grid b codesAt 12 j 12) em ∙ stands-grid b codesAt 12 m 12 (y .given .codes) (s .codes) (omega arith) (omega (arith, s .most)) (h .codes) in
+        ap (λ (j : ℕ). grid b codesAt 12 j 12) em ∙ stands-grid b codesAt 12 m 12 (y .given .codes) (s .codes) (omega arith) (omega (arith, s .most)) (h .given .codes) in
         let terms : map termsOf (grid b termsAt 6 (getD b 1 0) 6) ≡ y .given .terms =
         ap (λ (j : ℕ). map termsOf (grid b termsAt 6 j 6)) em
-        ∙ ap (map termsOf) (stands-grid b termsAt 6 m 6 termRows term-shape (omega arith) (omega (arith, s .most)) (h .terms)) ∙ terms-back (y .given .terms) in
+        ∙ ap (map termsOf) (stands-grid b termsAt 6 m 6 termRows term-shape (omega arith) (omega (arith, s .most)) (h .given .terms)) ∙ terms-back (y .given .terms) in
         let receipts : grid b receiptsAt 32 (getD b 0 0) (getD b 1 0) ≡ y .given .receipts =
-        ap₂ (grid b receiptsAt 32) en em ∙ stands-grid b receiptsAt 32 n m (y .given .receipts) (s .receipts) (s .most) (omega (arith, s .few)) (h .receipts) in
+        ap₂ (grid b receiptsAt 32) en em ∙ stands-grid b receiptsAt 32 n m (y .given .receipts) (s .receipts) (s .most) (omega (arith, s .few)) (h .given .receipts) in
         let pairs : cube b pairsAt (getD b 0 0) ≡ y .given .pairs =
-        ap (cube b pairsAt) en ∙ cube-view b pairsAt (y .given .pairs) (s .baskets) (s .pairs) (omega arith) (h .pairs) in
+        ap (cube b pairsAt) en ∙ cube-view b pairsAt (y .given .pairs) (s .baskets) (s .pairs) (omega arith) (h .given .pairs) in
         let positions : (f : ℕ → ℕ) → map (map f) (grid b positionsAt 12 baskets (getD b 0 0)) ≡ map (map f) positionRows =
         λ f. ap (λ (j : ℕ). map (map f) (grid b positionsAt 12 baskets j)) en ∙ ap (map (map f)) position-grid in
         let notices : grid b noticesAt 32 (getD b 0 0) (getD b 1 0) ≡ y .state .notices =
@@ -549,10 +585,12 @@ module _ (b : List ℕ) (r : Readable b) where
     issues = refl;
     runs = refl;
     trades = refl;
-    codes = grid-stands b codesAt 12 (getD b 1 0) 12;
-    terms = terms-holds;
-    receipts = grid-stands b receiptsAt 32 (getD b 0 0) (getD b 1 0);
-    pairs = cube-holds pairsAt;
+    given = record {
+      codes = grid-stands b codesAt 12 (getD b 1 0) 12;
+      terms = terms-holds;
+      receipts = grid-stands b receiptsAt 32 (getD b 0 0) (getD b 1 0);
+      pairs = cube-holds pairsAt;
+    };
     positions = split-stands b positionsAt 12 7 (getD b 0 0) (r .words) position-read;
     notices = grid-stands b noticesAt 32 (getD b 0 0) (getD b 1 0);
     today = cube-holds todayAt;
@@ -562,3 +600,34 @@ module _ (b : List ℕ) (r : Readable b) where
   -- what is viewed, stored again, changes nothing
   pub stored-view : stored b (view b) ≡ b
   stored-view = stored-is (view b) view-shaped b (r .size) b (r .size) view-holds (λ j h. refl)
+
+-- ---- tables that stay where their cells have not changed
+
+module _ (y : Day) (s : Shaped y) (b c : List ℕ) where
+  pub given-kept : ((j : ℕ) → 4 ≤ j → j < positionsAt → getD c j 0 ≡ getD b j 0) → HoldsGiven b (y .given) → HoldsGiven c (y .given)
+  given-kept same v = record {
+    codes = stands-agree b c codesAt 12 (y .given .issues) 12 (y .given .codes) (omega arith) (λ j l k. same j (omega arith) (omega (arith, s .most))) (v .codes);
+    terms = stands-agree b c termsAt 6 (y .given .issues) 6 (map termsRow (y .given .terms)) (omega arith) (λ j l k. same j (omega arith) (omega (arith, s .most))) (v .terms);
+    receipts = stands-agree b c receiptsAt 32 (y .given .participants) (y .given .issues) (y .given .receipts) (s .most) (λ j l k. same j (omega arith) (omega (arith, s .few))) (v .receipts);
+    pairs = λ q h. stands-agree b c (pairsAt + 144 * q) 12 (y .given .participants) (y .given .participants) (row (y .given .pairs) q) (s .few) (λ j l k. same j (omega arith) (omega (arith, s .few))) (v .pairs q h);
+  }
+
+  pub positions-kept : ((j : ℕ) → positionsAt ≤ j → j < noticesAt → getD c j 0 ≡ getD b j 0) → Holds b y
+      → Stands c positionsAt 12 7 (y .given .participants) (signedRows (y .state .owed) (y .state .due))
+  positions-kept same v =
+      stands-agree b c positionsAt 12 7 (y .given .participants) (signedRows (y .state .owed) (y .state .due)) (s .few) (λ j l k. same j l (omega arith)) (v .positions)
+
+  pub notices-kept : ((j : ℕ) → noticesAt ≤ j → j < todayAt → getD c j 0 ≡ getD b j 0) → Holds b y
+      → Stands c noticesAt 32 (y .given .participants) (y .given .issues) (y .state .notices)
+  notices-kept same v =
+      stands-agree b c noticesAt 32 (y .given .participants) (y .given .issues) (y .state .notices) (s .most) (λ j l k. same j l (omega (arith, s .few))) (v .notices)
+
+  pub today-kept : ((j : ℕ) → todayAt ≤ j → j < tallyAt → getD c j 0 ≡ getD b j 0) → Holds b y
+      → (k : ℕ) → k < 7 → Stands c (todayAt + 144 * k) 12 (y .given .participants) (y .given .participants) (row (y .state .today) k)
+  today-kept same v q h =
+      stands-agree b c (todayAt + 144 * q) 12 (y .given .participants) (y .given .participants) (row (y .state .today) q) (s .few) (λ j l k. same j (omega arith) (omega (arith, s .few))) (v .today q h)
+
+  pub tally-kept : ((j : ℕ) → tallyAt ≤ j → getD c j 0 ≡ getD b j 0) → Holds b y
+      → Stands c tallyAt 32 (y .given .participants) (y .given .issues) (signedRows (y .state .delivered) (y .state .received))
+  tally-kept same v =
+      stands-agree b c tallyAt 32 (y .given .participants) (y .given .issues) (signedRows (y .state .delivered) (y .state .received)) (s .most) (λ j l k. same j l) (v .tally)

@@ -13,3 +13,4 @@ pub mod FilledLaws
 pub mod LayoutLaws
 pub mod SoundLaws
 pub mod TradeLaws
+pub mod TradeStored

@@ -29,26 +29,26 @@ pub record Tradeable (y : Day) (seller buyer k yen : ℕ) : Type 0 where
   pub trades : y .state .trades < tradeLimit
 
 module _ (y : Day) (s : Shaped y) (seller buyer k yen : ℕ) (h : Tradeable y seller buyer k yen) where
-  abbrev n : ℕ
+  abbrev pub n : ℕ
   n = y .given .participants
 
-  abbrev o : ℕ → ℕ
+  abbrev pub o : ℕ → ℕ
   o p = cell (y .state .owed) k p
 
-  abbrev d : ℕ → ℕ
+  abbrev pub d : ℕ → ℕ
   d p = cell (y .state .due) k p
 
   -- the tables after the seller's position, and after the buyer's
-  abbrev owed1 : List (List ℕ)
+  abbrev pub owed1 : List (List ℕ)
   owed1 = put (y .state .owed) k seller (o seller + yen - d seller)
 
-  abbrev due1 : List (List ℕ)
+  abbrev pub due1 : List (List ℕ)
   due1 = put (y .state .due) k seller (d seller - (o seller + yen))
 
-  abbrev owed2 : List (List ℕ)
+  abbrev pub owed2 : List (List ℕ)
   owed2 = put owed1 k buyer (cell owed1 k buyer - (cell due1 k buyer + yen))
 
-  abbrev due2 : List (List ℕ)
+  abbrev pub due2 : List (List ℕ)
   due2 = put due1 k buyer (cell due1 k buyer + yen - cell owed1 k buyer)
 
   pub traded-owed : traded y seller buyer k yen .state .owed ≡ owed2
@@ -65,7 +65,7 @@ module _ (y : Day) (s : Shaped y) (seller buyer k yen : ℕ) (h : Tradeable y se
   due1-shape : Shape due1 7 n
   due1-shape = put-shape (y .state .due) 7 n (s .due) k seller _ (h .basket) (h .sells)
 
-  owed2-shape : Shape owed2 7 n
+  pub owed2-shape : Shape owed2 7 n
   owed2-shape = put-shape owed1 7 n owed1-shape k buyer _ (h .basket) (h .buys)
 
   due2-shape : Shape due2 7 n
@@ -167,7 +167,7 @@ module _ (y : Day) (s : Shaped y) (seller buyer k yen : ℕ) (h : Tradeable y se
       )
 
   -- a position is the seller's, the buyer's, or another
-  which : (P : ℕ → ℕ → Type 0) → P k seller → P k buyer → ((j p : ℕ) → (j ≡ k → (p ≢ seller) × (p ≢ buyer)) → P j p) → (j p : ℕ) → P j p
+  pub which : (P : ℕ → ℕ → Type 0) → P k seller → P k buyer → ((j p : ℕ) → (j ≡ k → (p ≢ seller) × (p ≢ buyer)) → P j p) → (j p : ℕ) → P j p
   which P a b c j p = go (ℕ-discrete j k) (ℕ-discrete p seller) (ℕ-discrete p buyer)
     where
       go : Dec (j ≡ k) → Dec (p ≡ seller) → Dec (p ≡ buyer) → P j p
