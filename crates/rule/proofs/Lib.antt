@@ -14,3 +14,4 @@ pub mod LayoutLaws
 pub mod SoundLaws
 pub mod TradeLaws
 pub mod TradeStored
+pub mod NoticeLaws
