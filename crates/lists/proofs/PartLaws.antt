@@ -4,6 +4,7 @@ use mathlib.Core.Logic.{_≢_, _⊎_, inl, inr}
 use Prim.Native.Nat.{ℕ, zero, suc, _+_, _-_, _*_, _≤_, _<_, min, suc-le-suc}
 use native.Mathlib.Nat.{not-suc-le-zero, le-of-suc-le-suc, mul-suc, suc-mul, mul-comm, mul-le-mul-left, mul-le-mul-right, mul-zero, add-zero, add-sub-cancel-left, le-refl}
 use native.Mathlib.Decide.{decLt, ℕ-discrete}
+use native.Mathlib.Numerals.{add-one}
 use native.Mathlib.Omega.{arith}
 use mathlib.Core.List.{List, [], _∷_, _++_, map}
 use lib.ListN.{length, getD, take, drop, set, length-set, length-append, length-take, length-drop, List·getD-append}
@@ -172,6 +173,10 @@ length-written (w ∷ ws) b h =
     let e : length (over b (w .0) (w .1)) ≡ length b = length-over b (w .1) (w .0) (h .0) in
     length-written ws (over b (w .0) (w .1)) (subst (λ (n : ℕ). Every (Inside n) ws) (sym e) (h .1)) ∙ e
 
+pub written-append : (xs ys : List (ℕ × List ℕ)) (b : List ℕ) → written b (xs ++ ys) ≡ written (written b xs) ys
+written-append [] ys b = refl
+written-append (x ∷ xs) ys b = written-append xs ys (over b (x .0) (x .1))
+
 -- a place outside every row stays
 pub written-out : (ws : List (ℕ × List ℕ)) (b : List ℕ) (j : ℕ) → Every (Inside (length b)) ws → Every (Outside j) ws → getD (written b ws) j 0 ≡ getD b j 0
 written-out [] b j h k = refl
@@ -224,6 +229,11 @@ written-reads (w ∷ ws) b f h r =
       written-before ws (over b (w .0) (w .1)) (w .0 + length (w .1)) (w .0) (length (w .1)) h′ (r .1) (le-refl _) ∙ over-same b (w .1) (w .0) (h .0),
       written-reads ws (over b (w .0) (w .1)) (w .0 + length (w .1)) h′ (r .1),
     )
+
+-- every row is at its start or after it
+pub rising-past : (f : ℕ) (ws : List (ℕ × List ℕ)) → Rising f ws → Every (λ w. f ≤ w .0) ws
+rising-past f [] r = tt
+rising-past f (w ∷ ws) r = (r .0, rising-past f ws (rising-down (w .0 + length (w .1)) f ws (omega (arith, r .0)) (r .1)))
 
 pub rising-append : (f e : ℕ) (ws vs : List (ℕ × List ℕ)) → Rising f ws → Every (Inside e) ws → f ≤ e → Rising e vs → Rising f (ws ++ vs)
 rising-append f e [] vs r h l s = rising-down e f vs l s
@@ -360,3 +370,18 @@ module _ (t : List (List ℕ)) (n m : ℕ) (s : Shape t n m) (p i v : ℕ) (hp :
 pub stands-agree : (b c : List ℕ) (at stride n m : ℕ) (t : List (List ℕ)) → m ≤ stride → ((j : ℕ) → at ≤ j → j < at + stride * n → getD c j 0 ≡ getD b j 0)
     → Stands b at stride n m t → Stands c at stride n m t
 stands-agree b c at stride n m t wide same h p i l k = same (at + stride * p + i) (omega arith) (omega (arith, mul-le-mul-left stride l, mul-suc stride p)) ∙ h p i l k
+
+-- one turn of a loop that writes the rows of a table
+pub rows-more : (stride : ℕ) (rs : List (List ℕ)) (at p : ℕ) → p < length rs → rowsAt at stride (take (p + 1) rs) ≡ rowsAt at stride (take p rs) ++ ((at + stride * p, row rs p) ∷ [])
+rows-more stride rs at p h = rw (add-one p) (go rs at p h)
+  where
+    go : (rs : List (List ℕ)) (at p : ℕ) → p < length rs → rowsAt at stride (take (suc p) rs) ≡ rowsAt at stride (take p rs) ++ ((at + stride * p, row rs p) ∷ [])
+    go [] at p l = absurd (not-suc-le-zero l)
+    go (r ∷ rs) at zero l = let e : at ≡ at + stride * 0 = omega (arith, mul-zero stride) in ap (λ (k : ℕ). (k, r) ∷ []) e
+    go (r ∷ rs) at (suc p) l =
+        let e : at + stride + stride * p ≡ at + stride * suc p = omega (arith, mul-suc stride p) in
+        ap (λ (ws : List (ℕ × List ℕ)). (at, r) ∷ ws) (go rs (at + stride) p (le-of-suc-le-suc l) ∙ ap (λ (k : ℕ). rowsAt (at + stride) stride (take p rs) ++ ((k, row rs p) ∷ [])) e)
+
+pub written-more : (stride : ℕ) (rs : List (List ℕ)) (at p : ℕ) (b : List ℕ) → p < length rs
+    → written b (rowsAt at stride (take (p + 1) rs)) ≡ over (written b (rowsAt at stride (take p rs))) (at + stride * p) (row rs p)
+written-more stride rs at p b h = ap (written b) (rows-more stride rs at p h) ∙ written-append (rowsAt at stride (take p rs)) ((at + stride * p, row rs p) ∷ []) b

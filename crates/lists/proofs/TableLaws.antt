@@ -41,6 +41,9 @@ zero-from k zero i = refl
 zero-from k (suc n) zero = refl
 zero-from k (suc n) (suc i) = zero-from (suc k) n i
 
+pub length-zeros : (n : ℕ) → length (zeros n) ≡ n
+length-zeros n = length-table {A = ℕ} n (λ i. 0)
+
 pub getD-zeros : (n i : ℕ) → getD (zeros n) i 0 ≡ 0
 getD-zeros n i = zero-from 0 n i
 

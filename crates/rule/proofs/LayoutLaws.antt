@@ -22,7 +22,7 @@ use Rattle.lists.proofs.TableLaws.{length-table, getD-table, getD-map}
 use Rattle.lists.proofs.PartLaws.{Inside, Outside, Reads, Rising, length-written, written-is, written-out, written-reads, Chain, rising-chain, rising-joined, Shape, Stands, stands-reads, reads-stands, rows-inside, rows-rise, rows-at, stands-agree, stands-grid, grid-shape, grid-stands, table-agree}
 use Rattle.rule.specs.Value.{Terms, noTerms}
 use Rattle.rule.specs.Day.{Given, State, Day, baskets, mark, termsOf}
-use Rattle.rule.specs.Layout.{codesAt, termsAt, receiptsAt, pairsAt, positionsAt, noticesAt, todayAt, tallyAt, bookLength, plus, minus, signed, signedRows, cube, view, termsRow, cubeRows, tablesOf, stored}
+use Rattle.rule.specs.Layout.{codesAt, termsAt, receiptsAt, pairsAt, positionsAt, noticesAt, todayAt, tallyAt, bookLength, plus, minus, signed, signedRows, cube, view, termsRow, cubeRows, givenTables, tablesOf, stored}
 
 -- ---- a signed number and its cell
 
@@ -240,6 +240,41 @@ module _ (y : Day) (s : Shaped y) where
   tally-in : (e : ℕ) → bookLength ≤ e → Every (Inside e) (rowsAt tallyAt 32 tallyRows)
   tally-in e h = rows-inside [] tallyAt 32 n m tallyRows tally-shape e (s .most) (omega (arith, s .few))
 
+  -- the tables that opening brings, and what follows them
+  chain-on : (ts : List (ℕ × List (ℕ × List ℕ))) → Chain positionsAt ts
+      → Chain codesAt ((termsAt, rowsAt codesAt 12 (y .given .codes)) ∷ (receiptsAt, rowsAt termsAt 6 termRows) ∷ (pairsAt, rowsAt receiptsAt 32 (y .given .receipts)) ∷ (positionsAt, cubeRows pairsAt (y .given .pairs)) ∷ ts)
+  chain-on ts c =
+      (
+        rows-rise [] codesAt 12 m 12 (y .given .codes) (s .codes) (omega arith),
+        codes-in _ (le-refl _),
+        omega arith,
+        (
+          rows-rise [] termsAt 6 m 6 termRows term-shape (omega arith),
+          terms-in _ (le-refl _),
+          omega arith,
+          (
+            rows-rise [] receiptsAt 32 n m (y .given .receipts) (s .receipts) (s .most),
+            receipts-in _ (le-refl _),
+            omega arith,
+            (cube-rise pairsAt (y .given .pairs) (s .pairs), pairs-in _ (le-refl _), omega arith, c),
+          ),
+        ),
+      )
+
+  pub given-inside : (e : ℕ) → positionsAt ≤ e → Every (Inside e) (joined (givenTables (y .given)))
+  given-inside e h =
+      every-join (Inside e) (givenTables (y .given)) (codes-in e (omega arith), (terms-in e (omega arith), (receipts-in e (omega arith), (pairs-in e h, tt))))
+
+  pub given-rise : Rising codesAt (joined (givenTables (y .given)))
+  given-rise =
+      rising-chain codesAt
+      ((termsAt, getD (givenTables (y .given)) 0 [])
+      ∷ (receiptsAt, getD (givenTables (y .given)) 1 [])
+      ∷ (pairsAt, getD (givenTables (y .given)) 2 [])
+      ∷ (positionsAt, getD (givenTables (y .given)) 3 [])
+      ∷ [])
+      (chain-on [] tt)
+
   rows-of-inside : Every (Inside bookLength) (joined (tablesOf y))
   rows-of-inside = every-join (Inside bookLength) (tablesOf y)
       (
@@ -273,42 +308,24 @@ module _ (y : Day) (s : Shaped y) where
         (omega arith, tt),
         (omega arith, tt),
         omega arith,
-        (
-          rows-rise [] codesAt 12 m 12 (y .given .codes) (s .codes) (omega arith),
-          codes-in _ (le-refl _),
-          omega arith,
-          (
-            rows-rise [] termsAt 6 m 6 termRows term-shape (omega arith),
-            terms-in _ (le-refl _),
-            omega arith,
+        chain-on
+            ((noticesAt, getD (tablesOf y) 5 []) ∷ (todayAt, getD (tablesOf y) 6 []) ∷ (tallyAt, getD (tablesOf y) 7 []) ∷ (bookLength, getD (tablesOf y) 8 []) ∷ [])
             (
-              rows-rise [] receiptsAt 32 n m (y .given .receipts) (s .receipts) (s .most),
-              receipts-in _ (le-refl _),
+              rows-rise [] positionsAt 12 7 n positionRows position-shape (s .few),
+              positions-in _ (le-refl _),
               omega arith,
               (
-                cube-rise pairsAt (y .given .pairs) (s .pairs),
-                pairs-in _ (le-refl _),
+                rows-rise [] noticesAt 32 n m (y .state .notices) (s .notices) (s .most),
+                notices-in _ (le-refl _),
                 omega arith,
                 (
-                  rows-rise [] positionsAt 12 7 n positionRows position-shape (s .few),
-                  positions-in _ (le-refl _),
+                  cube-rise todayAt (y .state .today) (s .today),
+                  today-in _ (le-refl _),
                   omega arith,
-                  (
-                    rows-rise [] noticesAt 32 n m (y .state .notices) (s .notices) (s .most),
-                    notices-in _ (le-refl _),
-                    omega arith,
-                    (
-                      cube-rise todayAt (y .state .today) (s .today),
-                      today-in _ (le-refl _),
-                      omega arith,
-                      (rows-rise [] tallyAt 32 n m tallyRows tally-shape (s .most), tally-in _ (le-refl _), omega arith, tt),
-                    ),
-                  ),
+                  (rows-rise [] tallyAt 32 n m tallyRows tally-shape (s .most), tally-in _ (le-refl _), omega arith, tt),
                 ),
               ),
             ),
-          ),
-        ),
       )
 
   -- ---- rows that are read, and cells
@@ -350,6 +367,16 @@ module _ (y : Day) (s : Shaped y) where
         ),
       )
 
+  pub reads-given : (b : List ℕ) → Every (Reads b) (joined (givenTables (y .given))) → HoldsGiven b (y .given)
+  reads-given b h =
+      let r : Every (Every (Reads b)) (givenTables (y .given)) = every-parts (Reads b) (givenTables (y .given)) h in
+      record {
+        codes = reads-stands b codesAt 12 m 12 (y .given .codes) (s .codes) (r .0);
+        terms = reads-stands b termsAt 6 m 6 termRows term-shape (r .1 .0);
+        receipts = reads-stands b receiptsAt 32 n m (y .given .receipts) (s .receipts) (r .1 .1 .0);
+        pairs = cube-stands b pairsAt (y .given .pairs) (s .pairs) (r .1 .1 .1 .0);
+      }
+
   reads-holds : (b : List ℕ) → length b ≡ bookLength → Every (Reads b) (joined (tablesOf y)) → Holds b y
   reads-holds b e h =
       let r : Every (Every (Reads b)) (tablesOf y) = every-parts (Reads b) (tablesOf y) h in
@@ -359,12 +386,7 @@ module _ (y : Day) (s : Shaped y) where
         issues = ap (λ (l : List ℕ). getD l 1 0) head;
         runs = ap (λ (l : List ℕ). getD l 2 0) head;
         trades = ap (λ (l : List ℕ). getD l 3 0) head;
-        given = record {
-          codes = reads-stands b codesAt 12 m 12 (y .given .codes) (s .codes) (r .1 .0);
-          terms = reads-stands b termsAt 6 m 6 termRows term-shape (r .1 .1 .0);
-          receipts = reads-stands b receiptsAt 32 n m (y .given .receipts) (s .receipts) (r .1 .1 .1 .0);
-          pairs = cube-stands b pairsAt (y .given .pairs) (s .pairs) (r .1 .1 .1 .1 .0);
-        };
+        given = reads-given b (every-join (Reads b) (givenTables (y .given)) (r .1 .0, (r .1 .1 .0, (r .1 .1 .1 .0, (r .1 .1 .1 .1 .0, tt)))));
         positions = reads-stands b positionsAt 12 7 n positionRows position-shape (r .1 .1 .1 .1 .1 .0);
         notices = reads-stands b noticesAt 32 n m (y .state .notices) (s .notices) (r .1 .1 .1 .1 .1 .1 .0);
         today = cube-stands b todayAt (y .state .today) (s .today) (r .1 .1 .1 .1 .1 .1 .1 .0);

@@ -15,3 +15,4 @@ pub mod SoundLaws
 pub mod TradeLaws
 pub mod TradeStored
 pub mod NoticeLaws
+pub mod OpenLaws

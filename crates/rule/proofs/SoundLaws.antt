@@ -34,6 +34,25 @@ unfolding atMost
 of-most bound n m t h =
     all-of (λ p. allBelow m (λ i. leb (cell t p i) bound)) n (λ p l. all-of (λ i. leb (cell t p i) bound) m (λ i k. le-leb (cell t p i) bound (h p i l k)))
 
+-- the sizes of a day
+pub record Sizes (n m : ℕ) : Type 0 where
+  pub two : 2 ≤ n
+  pub few : n ≤ 12
+  pub one : 1 ≤ m
+  pub most : m ≤ 32
+
+pub sizes-of : (n m : ℕ) → sizesFit n m ≡ true → Sizes n m
+unfolding sizesFit
+sizes-of n m h =
+    let three : (leb 2 n && leb n 12 && leb 1 m) ≡ true = and-left (leb 2 n && leb n 12 && leb 1 m) (leb m 32) h in
+    let pair : (leb 2 n && leb n 12) ≡ true = and-left (leb 2 n && leb n 12) (leb 1 m) three in
+    record {
+      two = leb-true 2 n (and-left (leb 2 n) (leb n 12) pair);
+      few = leb-true n 12 (and-right (leb 2 n) (leb n 12) pair);
+      one = leb-true 1 m (and-right (leb 2 n && leb n 12) (leb 1 m) three);
+      most = leb-true m 32 (and-right (leb 2 n && leb n 12 && leb 1 m) (leb m 32) h);
+    }
+
 pub record SoundDay (y : Day) : Type 0 where
   pub runs : y .state .runs ≤ 3
   pub sizes : sizesFit (y .given .participants) (y .given .issues) ≡ true

@@ -102,20 +102,25 @@ abbrev pub cubeRows : ℕ → List (List (List ℕ)) → List (ℕ × List ℕ)
 cubeRows at marks = joined (table baskets (λ k. rowsAt (at + 144 * k) 12 (row marks k)))
 
 -- the tables of a day, rows with their places; the sizes and counts are one row
-abbrev pub tablesOf : Day → List (List (ℕ × List ℕ))
-tablesOf y =
-    let g : Given = y .given in
-    let s : State = y .state in
-    ((0, g .participants ∷ g .issues ∷ s .runs ∷ s .trades ∷ []) ∷ [])
-    ∷ rowsAt codesAt 12 (g .codes)
+abbrev pub givenTables : Given → List (List (ℕ × List ℕ))
+givenTables g =
+    rowsAt codesAt 12 (g .codes)
     ∷ rowsAt termsAt 6 (map termsRow (g .terms))
     ∷ rowsAt receiptsAt 32 (g .receipts)
     ∷ cubeRows pairsAt (g .pairs)
-    ∷ rowsAt positionsAt 12 (signedRows (s .owed) (s .due))
+    ∷ []
+
+abbrev pub stateTables : State → List (List (ℕ × List ℕ))
+stateTables s =
+    rowsAt positionsAt 12 (signedRows (s .owed) (s .due))
     ∷ rowsAt noticesAt 32 (s .notices)
     ∷ cubeRows todayAt (s .today)
     ∷ rowsAt tallyAt 32 (signedRows (s .delivered) (s .received))
     ∷ []
+
+abbrev pub tablesOf : Day → List (List (ℕ × List ℕ))
+tablesOf y =
+    ((0, y .given .participants ∷ y .given .issues ∷ y .state .runs ∷ y .state .trades ∷ []) ∷ []) ∷ (givenTables (y .given) ++ stateTables (y .state))
 
 unfoldable pub stored : List ℕ → Day → List ℕ
 stored b y = written b (joined (tablesOf y))
