@@ -11,7 +11,9 @@ pub mod DrawLaws
 pub mod FillingLaws
 pub mod FilledLaws
 pub mod LayoutLaws
+pub mod AnswerLaws
 pub mod SoundLaws
+pub mod BookLaws
 pub mod TradeLaws
 pub mod TradeStored
 pub mod NoticeLaws
