@@ -49,21 +49,24 @@ unfoldable pub openDay : Day → ℕ → ℕ → List ℕ → List ℕ → List 
 openDay old n m codes terms receipts pairs =
     answer (openRefusal true n m codes terms receipts pairs) accepted (opened (givenOf n m codes terms receipts pairs)) old
 
+-- ---- every other call
+
+-- "unsound book" comes first
+unfoldable pub refusal : Bool → List (ℕ × Bool) → ℕ
+refusal isSound checks = first ((5, not isSound) ∷ checks)
+
 -- ---- trade
 
 -- a position's part of one sign after yen were added to it
 abbrev pub afterwards : ℕ → ℕ → ℕ → ℕ
 afterwards a b yen = a + yen - b
 
-unfoldable pub tradeRefusal : Bool → Day → ℕ → ℕ → ℕ → ℕ → ℕ
-tradeRefusal isSound y seller buyer k yen =
+unfoldable pub tradeChecks : Day → ℕ → ℕ → ℕ → ℕ → List (ℕ × Bool)
+tradeChecks y seller buyer k yen =
     let g : Given = y .given in
     let s : State = y .state in
-    first (
-    -- "unsound book"
-    (5, not isSound)
     -- "three runs done"
-    ∷ (6, leb 3 (s .runs))
+    (6, leb 3 (s .runs))
     -- "participant or basket not of this day, or seller is buyer"
     ∷ (7, leb (g .participants) seller)
     ∷ (7, leb (g .participants) buyer)
@@ -79,10 +82,10 @@ tradeRefusal isSound y seller buyer k yen =
     ∷ (10, ltb positionLimit (afterwards (cell (s .due) k buyer) (cell (s .owed) k buyer) yen))
     -- "10,000 trades accepted already"
     ∷ (11, leb tradeLimit (s .trades))
-    ∷ [])
+    ∷ []
 
 unfoldable pub tradeDay : Day → ℕ → ℕ → ℕ → ℕ → Reply × Day
-tradeDay y seller buyer k yen = answer (tradeRefusal (sound y) y seller buyer k yen) accepted (traded y seller buyer k yen) y
+tradeDay y seller buyer k yen = answer (refusal (sound y) (tradeChecks y seller buyer k yen)) accepted (traded y seller buyer k yen) y
 
 -- ---- notice
 
@@ -90,11 +93,9 @@ tradeDay y seller buyer k yen = answer (tradeRefusal (sound y) y seller buyer k 
 unfoldable pub distinct : List ℕ → Bool
 distinct l = allBelow (length l) (λ j. allBelow j (λ i. not (eqb (getD l i 0) (getD l j 0))))
 
-unfoldable pub noticeRefusal : Bool → Day → ℕ → List ℕ → List ℕ → ℕ
-noticeRefusal isSound y p issues lots =
-    first (
-    (5, not isSound)
-    ∷ (6, leb 3 (y .state .runs))
+unfoldable pub noticeChecks : Day → ℕ → List ℕ → List ℕ → List (ℕ × Bool)
+noticeChecks y p issues lots =
+    (6, leb 3 (y .state .runs))
     ∷ (7, leb (y .given .participants) p)
     -- "no entry, two lengths, an issue not of the day, or one twice"
     ∷ (12, eqb (length issues) 0)
@@ -103,10 +104,10 @@ noticeRefusal isSound y p issues lots =
     ∷ (12, not (distinct issues))
     -- "lots above 200,000,000 (0 is allowed)"
     ∷ (13, not (allBelow (length lots) (λ j. leb (getD lots j 0) noticeLimit)))
-    ∷ [])
+    ∷ []
 
 unfoldable pub noticeDay : Day → ℕ → List ℕ → List ℕ → Reply × Day
-noticeDay y p issues lots = answer (noticeRefusal (sound y) y p issues lots) accepted (noticed y p issues lots) y
+noticeDay y p issues lots = answer (refusal (sound y) (noticeChecks y p issues lots)) accepted (noticed y p issues lots) y
 
 -- ---- run
 
@@ -127,17 +128,15 @@ mostMatches = 77
 abbrev pub mostLines : ℕ
 mostLines = 2464
 
-unfoldable pub runRefusal : Bool → Day → List ℕ → ℕ → ℕ → ℕ
-runRefusal isSound y draw matchPlaces linePlaces =
-    first (
-    (5, not isSound)
-    ∷ (6, leb 3 (y .state .runs))
+unfoldable pub runChecks : Day → List ℕ → ℕ → ℕ → List (ℕ × Bool)
+runChecks y draw matchPlaces linePlaces =
+    (6, leb 3 (y .state .runs))
     -- "the draw does not name each participant once"
     ∷ (14, not (eachOnce draw (y .given .participants)))
     -- "a lent list is short: run 77 matches and 2,464 lines"
     ∷ (15, ltb matchPlaces (matchSize * mostMatches))
     ∷ (15, ltb linePlaces (lineSize * mostLines))
-    ∷ [])
+    ∷ []
 
 -- "A run returns its counts"
 unfoldable pub runReply : List Allocation → Reply
@@ -147,21 +146,19 @@ runReply done = counts (length done) (length (lineList done))
 unfoldable pub runDay : Day → List ℕ → Reply × (Day × List (List ℕ) × List (List ℕ))
 runDay y draw =
     let done : List Allocation = allocations y draw in
-    answer (runRefusal (sound y) y draw (matchSize * mostMatches) (lineSize * mostLines)) (runReply done) (ran y done, matchList done, lineList done) (y, [], [])
+    answer (refusal (sound y) (runChecks y draw (matchSize * mostMatches) (lineSize * mostLines))) (runReply done) (ran y done, matchList done, lineList done) (y, [], [])
 
 -- ---- close
 
-unfoldable pub closeRefusal : Bool → Day → ℕ → ℕ → ℕ
-closeRefusal isSound y receiptPlaces pairPlaces =
+unfoldable pub closeChecks : Day → ℕ → ℕ → List (ℕ × Bool)
+closeChecks y receiptPlaces pairPlaces =
     let n : ℕ = y .given .participants in
-    first (
-    (5, not isSound)
     -- "fewer than three runs (before 15)"
-    ∷ (16, ltb (y .state .runs) 3)
+    (16, ltb (y .state .runs) 3)
     -- "close participants × issues, and 7 × participants squared"
     ∷ (15, ltb receiptPlaces (n * y .given .issues))
     ∷ (15, ltb pairPlaces (baskets * (n * n)))
-    ∷ [])
+    ∷ []
 
 -- "tomorrow's scheduled receipts (the tally where positive, else 0) and pairs (covered above 0 today)"
 unfoldable pub tomorrowReceipts : Day → List (List ℕ)
@@ -174,4 +171,4 @@ tomorrowPairs y = y .state .today
 unfoldable pub closeDay : Day → Reply × (List (List ℕ) × List (List (List ℕ)))
 closeDay y =
     let n : ℕ = y .given .participants in
-    answer (closeRefusal (sound y) y (n * y .given .issues) (baskets * (n * n))) accepted (tomorrowReceipts y, tomorrowPairs y) ([], [])
+    answer (refusal (sound y) (closeChecks y (n * y .given .issues) (baskets * (n * n)))) accepted (tomorrowReceipts y, tomorrowPairs y) ([], [])

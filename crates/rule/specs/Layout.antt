@@ -13,7 +13,7 @@ use Rattle.rule.specs.Value.{Terms}
 use Rattle.rule.specs.Day.{Given, State, Day, baskets, termsOf, givenOf, opened, traded, noticed}
 use Rattle.rule.specs.Run.{Allocation, allocations, ran, matchList, lineList}
 use Rattle.rule.specs.Sound.{sound}
-use Rattle.rule.specs.Calls.{Reply, accepted, answer, openRefusal, tradeRefusal, noticeRefusal, runRefusal, runReply, closeRefusal, tomorrowReceipts, tomorrowPairs}
+use Rattle.rule.specs.Calls.{Reply, accepted, answer, openRefusal, refusal, tradeChecks, noticeChecks, runChecks, runReply, closeChecks, tomorrowReceipts, tomorrowPairs}
 
 -- ---- offsets: each is the last plus a size. Rows are as far apart as in the largest day, of 12 participants and 32 issues
 
@@ -142,19 +142,19 @@ openOf n m codes terms receipts pairs b =
 unfoldable pub tradeOf : List ℕ → ℕ → ℕ → ℕ → ℕ → Reply × List ℕ
 tradeOf b seller buyer k yen =
     let y : Day = view b in
-    answer (tradeRefusal (soundBook b) y seller buyer k yen) accepted (stored b (traded y seller buyer k yen)) b
+    answer (refusal (soundBook b) (tradeChecks y seller buyer k yen)) accepted (stored b (traded y seller buyer k yen)) b
 
 unfoldable pub noticeOf : List ℕ → ℕ → List ℕ → List ℕ → Reply × List ℕ
 noticeOf b p issues lots =
     let y : Day = view b in
-    answer (noticeRefusal (soundBook b) y p issues lots) accepted (stored b (noticed y p issues lots)) b
+    answer (refusal (soundBook b) (noticeChecks y p issues lots)) accepted (stored b (noticed y p issues lots)) b
 
 -- "Entries past the counts stay"
 unfoldable pub runOf : List ℕ → List ℕ → List ℕ → List ℕ → Reply × (List ℕ × List ℕ × List ℕ)
 runOf b draw matches lines =
     let y : Day = view b in
     let done : List Allocation = allocations y draw in
-    answer (runRefusal (soundBook b) y draw (length matches) (length lines)) (runReply done)
+    answer (refusal (soundBook b) (runChecks y draw (length matches) (length lines))) (runReply done)
     (stored b (ran y done), over matches 0 (joined (matchList done)), over lines 0 (joined (lineList done)))
     (b, matches, lines)
 
@@ -162,6 +162,6 @@ runOf b draw matches lines =
 unfoldable pub closeOf : List ℕ → List ℕ → List ℕ → Reply × (List ℕ × List ℕ)
 closeOf b receipts pairs =
     let y : Day = view b in
-    answer (closeRefusal (soundBook b) y (length receipts) (length pairs)) accepted
+    answer (refusal (soundBook b) (closeChecks y (length receipts) (length pairs))) accepted
     (over receipts 0 (joined (tomorrowReceipts y)), over pairs 0 (joined (map joined (tomorrowPairs y))))
     (receipts, pairs)
