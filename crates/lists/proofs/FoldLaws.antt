@@ -13,7 +13,7 @@ use lib.Seq.{take-suc}
 use lib.Dec.{eqb}
 use borrow.Author.Tests.{ne-eqb}
 use Rattle.lists.specs.Tests.{pick}
-use Rattle.lists.specs.Tables.{from, table, less}
+use Rattle.lists.specs.Tables.{from, upTo, table, less}
 use Rattle.lists.specs.Folds.{foldl, total, sum, joined, Every}
 use Rattle.lists.proofs.TestLaws.{pick-no}
 
@@ -27,6 +27,17 @@ foldl-append f (x ∷ xs) ys s = foldl-append f xs ys (f s x)
 pub foldl-take : {A B : Type 0} (f : B → A → B) (xs : List A) (j : ℕ) (d : A) (s : B) → j < length xs
     → foldl f s (take (j + 1) xs) ≡ f (foldl f s (take j xs)) (getD xs j d)
 foldl-take f xs j d s h = rw (add-one j, take-suc xs j d h) (foldl-append f (take j xs) (getD xs j d ∷ []) s)
+
+-- one turn of a loop that counts up
+from-more : (k n : ℕ) → from k (suc n) ≡ from k n ++ ((k + n) ∷ [])
+from-more k zero = ap (λ (i : ℕ). i ∷ []) (omega arith)
+from-more k (suc n) = ap (λ (l : List ℕ). k ∷ l) (from-more (suc k) n ∙ ap (λ (i : ℕ). from (suc k) n ++ (i ∷ [])) (omega arith))
+
+pub foldl-upTo : {B : Type 0} (f : B → ℕ → B) (s : B) (n : ℕ) → foldl f s (upTo (n + 1)) ≡ f (foldl f s (upTo n)) n
+foldl-upTo {B} f s n =
+    let e : 0 + n ≡ n = omega arith in
+    ap (λ (k : ℕ). foldl f s (upTo k)) (add-one n) ∙ ap (λ (l : List ℕ). foldl f s l) (from-more 0 n) ∙ foldl-append f (upTo n) ((0 + n) ∷ []) s
+    ∙ ap (λ (i : ℕ). f (foldl f s (upTo n)) i) e
 
 -- what each step keeps, for entries of which Q holds
 pub fold-kept : {A B : Type 0} (P : B → Type 0) (Q : A → Type 0) (f : B → A → B) → ((s : B) (x : A) → Q x → P s → P (f s x))

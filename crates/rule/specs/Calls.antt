@@ -25,10 +25,9 @@ answer (suc e) reply new old = (refused (suc e), old)
 
 -- ---- opening. The book's length is its caller's to look at
 
-unfoldable pub openRefusal : Bool → ℕ → ℕ → List ℕ → List ℕ → List ℕ → List ℕ → ℕ
-openRefusal bookFits n m codes terms receipts pairs =
+unfoldable pub openChecks : Bool → ℕ → ℕ → List ℕ → List ℕ → List ℕ → List ℕ → List (ℕ × Bool)
+openChecks bookFits n m codes terms receipts pairs =
     let g : Given = givenOf n m codes terms receipts pairs in
-    first (
     -- "a size, an array length or the book's length is wrong"
     (1, not (sizesFit n m))
     ∷ (1, not (eqb (length codes) (12 * m)))
@@ -43,11 +42,11 @@ openRefusal bookFits n m codes terms receipts pairs =
     -- "a receipt or pair mark is outside its range, or a pair is of one participant"
     ∷ (4, not (receiptsFit n m (g .receipts)))
     ∷ (4, not (marksFit n (g .pairs)))
-    ∷ [])
+    ∷ []
 
 unfoldable pub openDay : Day → ℕ → ℕ → List ℕ → List ℕ → List ℕ → List ℕ → Reply × Day
 openDay old n m codes terms receipts pairs =
-    answer (openRefusal true n m codes terms receipts pairs) accepted (opened (givenOf n m codes terms receipts pairs)) old
+    answer (first (openChecks true n m codes terms receipts pairs)) accepted (opened (givenOf n m codes terms receipts pairs)) old
 
 -- ---- every other call
 

@@ -5,7 +5,7 @@ use mathlib.Core.Bool.{Bool, _&&_}
 use mathlib.Core.List.{List, [], _∷_, _++_, map}
 use lib.ListN.{length, getD}
 use lib.Dec.{ltb, eqb}
-use Rattle.lists.specs.Tests.{pick}
+use Rattle.lists.specs.Tests.{pick, first}
 use Rattle.lists.specs.Tables.{upTo, table, zeros, row, cell}
 use Rattle.lists.specs.Folds.{joined}
 use Rattle.lists.specs.Parts.{grid, over, rowsAt, written}
@@ -13,7 +13,7 @@ use Rattle.rule.specs.Value.{Terms}
 use Rattle.rule.specs.Day.{Given, State, Day, baskets, termsOf, givenOf, opened, traded, noticed}
 use Rattle.rule.specs.Run.{Allocation, allocations, ran, matchList, lineList}
 use Rattle.rule.specs.Sound.{sound}
-use Rattle.rule.specs.Calls.{Reply, accepted, answer, openRefusal, refusal, tradeChecks, noticeChecks, runChecks, runReply, closeChecks, tomorrowReceipts, tomorrowPairs}
+use Rattle.rule.specs.Calls.{Reply, accepted, answer, openChecks, refusal, tradeChecks, noticeChecks, runChecks, runReply, closeChecks, tomorrowReceipts, tomorrowPairs}
 
 -- ---- offsets: each is the last plus a size. Rows are as far apart as in the largest day, of 12 participants and 32 issues
 
@@ -136,7 +136,7 @@ soundBook b = bookFits b && sound (view b)
 -- "places beyond the day's sizes too"
 unfoldable pub openOf : ℕ → ℕ → List ℕ → List ℕ → List ℕ → List ℕ → List ℕ → Reply × List ℕ
 openOf n m codes terms receipts pairs b =
-    answer (openRefusal (bookFits b) n m codes terms receipts pairs) accepted
+    answer (first (openChecks (bookFits b) n m codes terms receipts pairs)) accepted
     (stored (zeros bookLength) (opened (givenOf n m codes terms receipts pairs))) b
 
 unfoldable pub tradeOf : List ℕ → ℕ → ℕ → ℕ → ℕ → Reply × List ℕ
