@@ -1,0 +1,3 @@
+-- What the contracts of the book cite besides the rule.
+pub mod Ranges
+pub mod Sized

@@ -1,0 +1,4 @@
+-- What belongs to no one function.
+pub mod InsertLaws
+pub mod JoinLaws
+pub mod RankLaws
