@@ -224,8 +224,7 @@ pub written-reads : (ws : List (ℕ × List ℕ)) (b : List ℕ) (f : ℕ) → E
 written-reads [] b f h r = tt
 written-reads (w ∷ ws) b f h r =
     let e : length (over b (w .0) (w .1)) ≡ length b = length-over b (w .1) (w .0) (h .0) in
-    let h′ : Every (Inside (length (over b (w .0) (w .1)))) ws = subst (λ (k : ℕ). Every (Inside k) ws) (sym e) (h .1) in
-    (
+    let h′ : Every (Inside (length (over b (w .0) (w .1)))) ws = subst (λ (k : ℕ). Every (Inside k) ws) (sym e) (h .1) in (
       written-before ws (over b (w .0) (w .1)) (w .0 + length (w .1)) (w .0) (length (w .1)) h′ (r .1) (le-refl _) ∙ over-same b (w .1) (w .0) (h .0),
       written-reads ws (over b (w .0) (w .1)) (w .0 + length (w .1)) h′ (r .1),
     )
@@ -245,11 +244,10 @@ rising-append f e (w ∷ ws) vs r h l s = (r .0, rising-append (w .0 + length (w
 pub rows-every : (P : ℕ × List ℕ → Type 0) (stride : ℕ) (rs : List (List ℕ)) (at : ℕ) → ((p : ℕ) → p < length rs → P (at + stride * p, row rs p)) → Every P (rowsAt at stride rs)
 rows-every P stride [] at h = tt
 rows-every P stride (r ∷ rs) at h =
-    let e : at + stride * 0 ≡ at = omega (arith, mul-zero stride) in
-    (
+    let e : at + stride * 0 ≡ at = omega (arith, mul-zero stride) in (
       subst (λ (k : ℕ). P (k, r)) e (h 0 (omega arith)),
       rows-every P stride rs (at + stride) (λ p l. let q : at + stride * suc p ≡ at + stride + stride * p = omega (arith, mul-suc stride p) in
-      subst (λ (k : ℕ). P (k, row rs p)) q (h (suc p) (suc-le-suc l))),
+          subst (λ (k : ℕ). P (k, row rs p)) q (h (suc p) (suc-le-suc l))),
     )
 
 pub rows-at : (P : ℕ × List ℕ → Type 0) (stride : ℕ) (rs : List (List ℕ)) (at : ℕ) → Every P (rowsAt at stride rs) → (p : ℕ) → p < length rs → P (at + stride * p, row rs p)

@@ -209,11 +209,10 @@ module _ (y : Day) (s : Shaped y) where
       rows-inside [] (at + 144 * k) 12 n n (row t k) (c k l) e (s .few) (omega (arith, s .few)))
 
   cube-rise : (at : ℕ) (t : List (List (List ℕ))) → ((k : ℕ) → k < 7 → Shape (row t k) n n) → Rising at (cubeRows at t)
-  cube-rise at t c = rising-joined 7 (λ k. rowsAt (at + 144 * k) 12 (row t k)) at 144 (λ k l.
-      (
-        rows-rise [] (at + 144 * k) 12 n n (row t k) (c k l) (s .few),
-        rows-inside [] (at + 144 * k) 12 n n (row t k) (c k l) (at + 144 * suc k) (s .few) (omega (arith, s .few)),
-      ))
+  cube-rise at t c = rising-joined 7 (λ k. rowsAt (at + 144 * k) 12 (row t k)) at 144 (λ k l. (
+    rows-rise [] (at + 144 * k) 12 n n (row t k) (c k l) (s .few),
+    rows-inside [] (at + 144 * k) 12 n n (row t k) (c k l) (at + 144 * suc k) (s .few) (omega (arith, s .few)),
+  ))
 
   -- every table ends before the next begins
   codes-in : (e : ℕ) → termsAt ≤ e → Every (Inside e) (rowsAt codesAt 12 (y .given .codes))
@@ -243,23 +242,22 @@ module _ (y : Day) (s : Shaped y) where
   -- the tables that opening brings, and what follows them
   chain-on : (ts : List (ℕ × List (ℕ × List ℕ))) → Chain positionsAt ts
       → Chain codesAt ((termsAt, rowsAt codesAt 12 (y .given .codes)) ∷ (receiptsAt, rowsAt termsAt 6 termRows) ∷ (pairsAt, rowsAt receiptsAt 32 (y .given .receipts)) ∷ (positionsAt, cubeRows pairsAt (y .given .pairs)) ∷ ts)
-  chain-on ts c =
+  chain-on ts c = (
+    rows-rise [] codesAt 12 m 12 (y .given .codes) (s .codes) (omega arith),
+    codes-in _ (le-refl _),
+    omega arith,
+    (
+      rows-rise [] termsAt 6 m 6 termRows term-shape (omega arith),
+      terms-in _ (le-refl _),
+      omega arith,
       (
-        rows-rise [] codesAt 12 m 12 (y .given .codes) (s .codes) (omega arith),
-        codes-in _ (le-refl _),
+        rows-rise [] receiptsAt 32 n m (y .given .receipts) (s .receipts) (s .most),
+        receipts-in _ (le-refl _),
         omega arith,
-        (
-          rows-rise [] termsAt 6 m 6 termRows term-shape (omega arith),
-          terms-in _ (le-refl _),
-          omega arith,
-          (
-            rows-rise [] receiptsAt 32 n m (y .given .receipts) (s .receipts) (s .most),
-            receipts-in _ (le-refl _),
-            omega arith,
-            (cube-rise pairsAt (y .given .pairs) (s .pairs), pairs-in _ (le-refl _), omega arith, c),
-          ),
-        ),
-      )
+        (cube-rise pairsAt (y .given .pairs) (s .pairs), pairs-in _ (le-refl _), omega arith, c),
+      ),
+    ),
+  )
 
   pub given-inside : (e : ℕ) → positionsAt ≤ e → Every (Inside e) (joined (givenTables (y .given)))
   given-inside e h =
@@ -276,20 +274,19 @@ module _ (y : Day) (s : Shaped y) where
       (chain-on [] tt)
 
   rows-of-inside : Every (Inside bookLength) (joined (tablesOf y))
-  rows-of-inside = every-join (Inside bookLength) (tablesOf y)
+  rows-of-inside = every-join (Inside bookLength) (tablesOf y) (
+    (omega arith, tt),
+    (
+      codes-in _ (omega arith),
       (
-        (omega arith, tt),
+        terms-in _ (omega arith),
         (
-          codes-in _ (omega arith),
-          (
-            terms-in _ (omega arith),
-            (
-              receipts-in _ (omega arith),
-              (pairs-in _ (omega arith), (positions-in _ (omega arith), (notices-in _ (omega arith), (today-in _ (omega arith), (tally-in _ (omega arith), tt))))),
-            ),
-          ),
+          receipts-in _ (omega arith),
+          (pairs-in _ (omega arith), (positions-in _ (omega arith), (notices-in _ (omega arith), (today-in _ (omega arith), (tally-in _ (omega arith), tt))))),
         ),
-      )
+      ),
+    ),
+  )
 
   rows-of-rise : Rising 0 (joined (tablesOf y))
   rows-of-rise =
@@ -303,14 +300,12 @@ module _ (y : Day) (s : Shaped y) where
       ∷ (todayAt, getD (tablesOf y) 6 [])
       ∷ (tallyAt, getD (tablesOf y) 7 [])
       ∷ (bookLength, getD (tablesOf y) 8 [])
-      ∷ [])
-      (
+      ∷ []) (
         (omega arith, tt),
         (omega arith, tt),
         omega arith,
         chain-on
-            ((noticesAt, getD (tablesOf y) 5 []) ∷ (todayAt, getD (tablesOf y) 6 []) ∷ (tallyAt, getD (tablesOf y) 7 []) ∷ (bookLength, getD (tablesOf y) 8 []) ∷ [])
-            (
+            ((noticesAt, getD (tablesOf y) 5 []) ∷ (todayAt, getD (tablesOf y) 6 []) ∷ (tallyAt, getD (tablesOf y) 7 []) ∷ (bookLength, getD (tablesOf y) 8 []) ∷ []) (
               rows-rise [] positionsAt 12 7 n positionRows position-shape (s .few),
               positions-in _ (le-refl _),
               omega arith,
@@ -340,32 +335,31 @@ module _ (y : Day) (s : Shaped y) where
   cube-stands b at t c h k l = reads-stands b (at + 144 * k) 12 n n (row t k) (c k l) (joined-at (Reads b) 7 (λ k. rowsAt (at + 144 * k) 12 (row t k)) h k l)
 
   holds-reads : (b : List ℕ) → length b ≡ bookLength → Holds b y → Every (Reads b) (joined (tablesOf y))
-  holds-reads b e h = every-join (Reads b) (tablesOf y)
+  holds-reads b e h = every-join (Reads b) (tablesOf y) (
+    (four b (omega arith) ∙ (λ k. h .participants k ∷ h .issues k ∷ h .runs k ∷ h .trades k ∷ []), tt),
+    (
+      stands-reads b codesAt 12 m 12 (y .given .codes) (s .codes) (omega arith) (omega (arith, s .most)) (h .given .codes),
       (
-        (four b (omega arith) ∙ (λ k. h .participants k ∷ h .issues k ∷ h .runs k ∷ h .trades k ∷ []), tt),
+        stands-reads b termsAt 6 m 6 termRows term-shape (omega arith) (omega (arith, s .most)) (h .given .terms),
         (
-          stands-reads b codesAt 12 m 12 (y .given .codes) (s .codes) (omega arith) (omega (arith, s .most)) (h .given .codes),
+          stands-reads b receiptsAt 32 n m (y .given .receipts) (s .receipts) (s .most) (omega (arith, s .few)) (h .given .receipts),
           (
-            stands-reads b termsAt 6 m 6 termRows term-shape (omega arith) (omega (arith, s .most)) (h .given .terms),
+            cube-reads b pairsAt (y .given .pairs) (s .pairs) (omega arith) (h .given .pairs),
             (
-              stands-reads b receiptsAt 32 n m (y .given .receipts) (s .receipts) (s .most) (omega (arith, s .few)) (h .given .receipts),
+              stands-reads b positionsAt 12 7 n positionRows position-shape (s .few) (omega arith) (h .positions),
               (
-                cube-reads b pairsAt (y .given .pairs) (s .pairs) (omega arith) (h .given .pairs),
+                stands-reads b noticesAt 32 n m (y .state .notices) (s .notices) (s .most) (omega (arith, s .few)) (h .notices),
                 (
-                  stands-reads b positionsAt 12 7 n positionRows position-shape (s .few) (omega arith) (h .positions),
-                  (
-                    stands-reads b noticesAt 32 n m (y .state .notices) (s .notices) (s .most) (omega (arith, s .few)) (h .notices),
-                    (
-                      cube-reads b todayAt (y .state .today) (s .today) (omega arith) (h .today),
-                      (stands-reads b tallyAt 32 n m tallyRows tally-shape (s .most) (omega (arith, s .few)) (h .tally), tt),
-                    ),
-                  ),
+                  cube-reads b todayAt (y .state .today) (s .today) (omega arith) (h .today),
+                  (stands-reads b tallyAt 32 n m tallyRows tally-shape (s .most) (omega (arith, s .few)) (h .tally), tt),
                 ),
               ),
             ),
           ),
         ),
-      )
+      ),
+    ),
+  )
 
   pub reads-given : (b : List ℕ) → Every (Reads b) (joined (givenTables (y .given))) → HoldsGiven b (y .given)
   reads-given b h =
@@ -526,6 +520,16 @@ terms-cell l (suc (suc (suc zero))) h = refl
 terms-cell l (suc (suc (suc (suc zero)))) h = refl
 terms-cell l (suc (suc (suc (suc (suc zero))))) h = refl
 terms-cell l (suc (suc (suc (suc (suc (suc i)))))) h = absurd (omega arith)
+
+-- rows of six cells, read as terms and written again
+pub terms-rows : (t : List (List ℕ)) (m : ℕ) → Shape t m 6 → map termsRow (map termsOf t) ≡ t
+terms-rows t m s =
+    ext-getD [] (map termsRow (map termsOf t)) t (length-map (map termsOf t) termsRow ∙ length-map t termsOf)
+    (λ p l.
+    let k : p < length t = omega (arith, length-map (map termsOf t) termsRow, length-map t termsOf) in
+    getD-map termsRow (map termsOf t) p noTerms [] (omega (arith, length-map t termsOf))
+    ∙ ap termsRow (getD-map termsOf t p [] noTerms k)
+    ∙ ext-getD 0 (termsRow (termsOf (row t p))) (row t p) (sym (s .cells p (omega (arith, s .rows)))) (terms-cell (row t p)))
 
 -- the cells of a signed table, split and joined again
 split-stands : (b : List ℕ) (at stride n m : ℕ) → ((j : ℕ) → getD b j 0 < whole) → Shape (grid b at stride n m) n m

@@ -93,8 +93,7 @@ zeroed-of r n m owed due notices h e = cases (or-cases (ltb r 3) _ h)
     cases : (ltb r 3 ≡ true) ⊎ ((atMost 0 7 n owed && atMost 0 7 n due && atMost 0 n m notices) ≡ true) → Zeroed n m owed due notices
     cases (inl l) = absurd (omega (arith, ltb-true r 3 l))
     cases (inr l) =
-        let two : (atMost 0 7 n owed && atMost 0 7 n due) ≡ true = and-left (atMost 0 7 n owed && atMost 0 7 n due) (atMost 0 n m notices) l in
-        (
+        let two : (atMost 0 7 n owed && atMost 0 7 n due) ≡ true = and-left (atMost 0 7 n owed && atMost 0 7 n due) (atMost 0 n m notices) l in (
           most-of 0 7 n owed (and-left (atMost 0 7 n owed) (atMost 0 7 n due) two),
           most-of 0 7 n due (and-right (atMost 0 7 n owed) (atMost 0 7 n due) two),
           most-of 0 n m notices (and-right (atMost 0 7 n owed && atMost 0 7 n due) (atMost 0 n m notices) l),
@@ -143,8 +142,7 @@ facts-sound y d =
     let n : ℕ = y .given .participants in
     let m : ℕ = y .given .issues in
     let s : State = y .state in
-    holds-all _
-    (
+    holds-all _ (
       le-leb (s .runs) 3 (d .runs),
       (
         d .sizes,

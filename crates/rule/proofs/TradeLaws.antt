@@ -160,11 +160,10 @@ module _ (y : Day) (s : Shaped y) (seller buyer k yen : ℕ) (h : Tradeable y se
   even-k e = even-arith _ _ _ _ _ _ _ _ _ _ _ _ _ _ e sum-owed1 sum-due1 sum-owed2 sum-due2 (net (o seller + yen) (d seller)) (omega arith)
 
   row-other : (j : ℕ) → j ≢ k → (row owed2 j ≡ row (y .state .owed) j) × (row due2 j ≡ row (y .state .due) j)
-  row-other j ne =
-      (
-        put-row-other owed1 7 n owed1-shape k buyer _ (h .basket) (h .buys) j ne ∙ put-row-other (y .state .owed) 7 n (s .owed) k seller _ (h .basket) (h .sells) j ne,
-        put-row-other due1 7 n due1-shape k buyer _ (h .basket) (h .buys) j ne ∙ put-row-other (y .state .due) 7 n (s .due) k seller _ (h .basket) (h .sells) j ne,
-      )
+  row-other j ne = (
+    put-row-other owed1 7 n owed1-shape k buyer _ (h .basket) (h .buys) j ne ∙ put-row-other (y .state .owed) 7 n (s .owed) k seller _ (h .basket) (h .sells) j ne,
+    put-row-other due1 7 n due1-shape k buyer _ (h .basket) (h .buys) j ne ∙ put-row-other (y .state .due) 7 n (s .due) k seller _ (h .basket) (h .sells) j ne,
+  )
 
   -- a position is the seller's, the buyer's, or another
   pub which : (P : ℕ → ℕ → Type 0) → P k seller → P k buyer → ((j p : ℕ) → (j ≡ k → (p ≢ seller) × (p ≢ buyer)) → P j p) → (j p : ℕ) → P j p

@@ -1,0 +1,5 @@
+-- Laws that the proofs of the calls cite.
+pub mod CellLaws
+pub mod TradeLaws
+pub mod NoticeLaws
+pub mod OpenLaws

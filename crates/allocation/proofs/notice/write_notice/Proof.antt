@@ -1,0 +1,80 @@
+use mathlib.Core.Path.{_≡_, refl, sym, _∙_, ap}
+use Prim.Native.Nat.{ℕ, _≤_, _<_, _-_, _+_, _*_}
+use native.Mathlib.Omega.{arith}
+use lib.ListN.{length, getD}
+use Rattle.lists.proofs.PartLaws.{part-length}
+use Rattle.rule.specs.Layout.{noticesAt}
+use Rattle.allocation.proofs.NoticeLaws.{row-back}
+use borrow.Author.Needs.{needs}
+use Rattle.allocation.proofs.notice.write_notice.Statement.{statement}
+use Rattle.allocation.proofs.notice.write_notice.Tie as tie
+use Rattle.allocation.proofs.notice.write_notice.Reads as reads
+use Rattle.allocation.proofs.notice.write_notice.Lts as lts
+use Rattle.allocation.proofs.notice.write_row.Reads as write-row-reads
+
+-- src/notice.rt:86:18
+slice-read-issues : tie.Need-slice-read-issues
+slice-read-issues c = search needs
+
+-- src/notice.rt:87:32
+mul-at : tie.Need-mul-at
+mul-at c = search needs
+
+-- src/notice.rt:87:14
+add-at : tie.Need-add-at
+add-at c = search needs
+
+-- src/notice.rt:88:15
+add-end : tie.Need-add-end
+add-end c = search needs
+
+-- src/notice.rt:89:15
+mul-write-row : tie.Need-mul-write-row
+mul-write-row c = search needs
+
+-- src/notice.rt:89:15
+sub-write-row : tie.Need-sub-write-row
+sub-write-row c = search needs
+
+-- src/notice.rt:89:15
+part-write-row-start : tie.Need-part-write-row-start
+part-write-row-start c = search needs
+
+-- src/notice.rt:89:15
+part-write-row-end : tie.Need-part-write-row-end
+part-write-row-end c = search needs
+
+-- src/notice.rt:89:5
+write-row-requires : tie.Need-write-row-requires
+write-row-requires c κs =
+    let s = c .before .before .before .before .before in
+    let b = s .args .book .now in
+    let long : _ = part-length b (noticesAt + 32 * s .args .participant) (getD b 1 0) (omega (arith, s .pre .size, s .pre .sender, s .pre .most)) in
+    record { lengths = s .pre .entries .lengths; named = λ j l. omega (arith, s .pre .entries .named j l, long) }
+
+-- src/notice.rt:82:1
+same-length : tie.Need-same-length
+same-length c = search needs
+
+-- src/notice.rt:82:1
+returns : tie.Need-returns
+returns c =
+    let s = c .before .before .before .before .before .before .before .before in
+    let b = s .args .book .now in
+    row-back b (s .args .participant) (getD b 1 0) (s .args .named .now) (s .args .lots .now) _ refl (omega (arith, s .pre .size, s .pre .sender, s .pre .most)) (c .before .before .write-row .ensures)
+
+pub write-notice-spec : {M : Type 1} → statement M
+write-notice-spec =
+    tie.close
+    (tie.spec
+    slice-read-issues
+    mul-at
+    add-at
+    add-end
+    mul-write-row
+    sub-write-row
+    part-write-row-start
+    part-write-row-end
+    write-row-requires
+    same-length
+    returns)

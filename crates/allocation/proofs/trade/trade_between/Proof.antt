@@ -1,0 +1,162 @@
+use mathlib.Core.Path.{_≡_, refl, sym, _∙_, ap}
+use Prim.Native.Nat.{ℕ, _≤_, _<_, _-_, _+_, _*_}
+use native.Mathlib.Omega.{arith}
+use lib.ListN.{length, getD}
+use borrow.Author.Needs.{needs}
+use Rattle.lists.proofs.TestLaws.{flag-no, flag-yes}
+use Rattle.rule.specs.Calls.{tradeChecks}
+use Rattle.rule.specs.Layout.{view}
+use Rattle.rule.proofs.AnswerLaws.{answers}
+use Rattle.allocation.specs.Checked.{tradeBetween}
+use Rattle.allocation.proofs.TradeLaws.{movable, sold-is, bought-is, over, not-over, accepted-trade}
+use Rattle.allocation.proofs.trade.trade_between.Statement.{statement}
+use Rattle.allocation.proofs.trade.trade_between.Tie as tie
+use Rattle.allocation.proofs.trade.trade_between.Reads as reads
+use Rattle.allocation.proofs.trade.trade_between.Lts as lts
+use Rattle.allocation.proofs.trade.due_after.Reads as due-after-reads
+use Rattle.allocation.proofs.trade.owed_after.Reads as owed-after-reads
+use Rattle.allocation.proofs.trade.place.Reads as place-reads
+use Rattle.allocation.proofs.trade.write_trade.Reads as write-trade-reads
+use Rattle.book.proofs.sound.tradable.Reads as tradable-reads
+
+-- src/trade.rt:67:9
+tradable-requires : tie.Need-tradable-requires
+tradable-requires c κs = search needs
+
+-- src/trade.rt:68:9
+same-length : tie.Need-same-length
+same-length c = search needs
+
+-- src/trade.rt:68:9
+returns : tie.Need-returns
+unfolding tradeBetween tradeChecks view
+returns c =
+    search (answers, flag-no, flag-yes, needs) depth 12
+
+-- src/trade.rt:70:9
+place-requires : tie.Need-place-requires
+place-requires c κs = search needs
+
+-- src/trade.rt:71:9
+place-requires-2 : tie.Need-place-requires-2
+place-requires-2 c κs = search needs
+
+-- src/trade.rt:72:27
+mul-owed-after : tie.Need-mul-owed-after
+mul-owed-after c = search needs
+
+-- src/trade.rt:72:27
+slice-read-owed-after : tie.Need-slice-read-owed-after
+slice-read-owed-after c = search needs
+
+-- src/trade.rt:72:9
+owed-after-requires : tie.Need-owed-after-requires
+owed-after-requires c κs =
+    let s = c .before .before .before .before .before .before .before in
+    movable (s .args .book .now) (s .pre .sound) (s .args .basket) (s .args .seller) _ (s .args .yen) (s .pre .basket) (s .pre .sells) (c .before .before .place .ensures) (s .pre .most)
+
+-- src/trade.rt:73:28
+mul-due-after : tie.Need-mul-due-after
+mul-due-after c = search needs
+
+-- src/trade.rt:73:28
+slice-read-due-after : tie.Need-slice-read-due-after
+slice-read-due-after c = search needs
+
+-- src/trade.rt:73:9
+due-after-requires : tie.Need-due-after-requires
+due-after-requires c κs =
+    let s = c .before .before .before .before .before .before .before .before .before in
+    movable (s .args .book .now) (s .pre .sound) (s .args .basket) (s .args .buyer) _ (s .args .yen) (s .pre .basket) (s .pre .buys) (c .before .before .before .place2 .ensures) (s .pre .most)
+
+-- src/trade.rt:75:9
+same-length-2 : tie.Need-same-length-2
+same-length-2 c = search needs
+
+-- src/trade.rt:75:9
+returns-2 : tie.Need-returns-2
+unfolding tradeBetween tradeChecks view
+returns-2 c =
+    let s = c .before .before .before .before .before .before .before .before .before .before .before in
+    let a = s .args in
+    let sold = sold-is (a .book .now) (s .pre .sound) (a .basket) (a .seller) _ (a .yen) (s .pre .basket) (s .pre .sells) (c .before .before .before .before .before .before .place .ensures) _ (c .before .before .before .owed-after .ensures) in
+    let bought = bought-is (a .book .now) (s .pre .sound) (a .basket) (a .buyer) _ (a .yen) (s .pre .basket) (s .pre .buys) (c .before .before .before .before .before .place2 .ensures) _ (c .before .due-after .ensures) in
+    search (answers, over, flag-yes, needs) depth 12
+
+-- src/trade.rt:78:9
+same-length-3 : tie.Need-same-length-3
+same-length-3 c = search needs
+
+-- src/trade.rt:78:9
+returns-3 : tie.Need-returns-3
+unfolding tradeBetween tradeChecks view
+returns-3 c =
+    let s = c .before .before .before .before .before .before .before .before .before .before .before .before in
+    let a = s .args in
+    let sold = sold-is (a .book .now) (s .pre .sound) (a .basket) (a .seller) _ (a .yen) (s .pre .basket) (s .pre .sells) (c .before .before .before .before .before .before .before .place .ensures) _ (c .before .before .before .before .owed-after .ensures) in
+    let bought = bought-is (a .book .now) (s .pre .sound) (a .basket) (a .buyer) _ (a .yen) (s .pre .basket) (s .pre .buys) (c .before .before .before .before .before .before .place2 .ensures) _ (c .before .before .due-after .ensures) in
+    search (answers, over, not-over, flag-yes, needs) depth 12
+
+-- src/trade.rt:80:8
+slice-read-if4 : tie.Need-slice-read-if4
+slice-read-if4 c = search needs
+
+-- src/trade.rt:81:9
+same-length-4 : tie.Need-same-length-4
+same-length-4 c = search needs
+
+-- src/trade.rt:81:9
+returns-4 : tie.Need-returns-4
+unfolding tradeBetween tradeChecks view
+returns-4 c =
+    let s = c .before .before .before .before .before .before .before .before .before .before .before .before .before .before in
+    let a = s .args in
+    let sold = sold-is (a .book .now) (s .pre .sound) (a .basket) (a .seller) _ (a .yen) (s .pre .basket) (s .pre .sells) (c .before .before .before .before .before .before .before .before .before .place .ensures) _ (c .before .before .before .before .before .before .owed-after .ensures) in
+    let bought = bought-is (a .book .now) (s .pre .sound) (a .basket) (a .buyer) _ (a .yen) (s .pre .basket) (s .pre .buys) (c .before .before .before .before .before .before .before .before .place2 .ensures) _ (c .before .before .before .before .due-after .ensures) in
+    search (answers, not-over, flag-yes, needs) depth 16
+
+-- src/trade.rt:83:5
+write-trade-requires : tie.Need-write-trade-requires
+write-trade-requires c κs = search needs
+
+-- src/trade.rt:63:1
+same-length-5 : tie.Need-same-length-5
+same-length-5 c = search needs
+
+-- src/trade.rt:63:1
+returns-5 : tie.Need-returns-5
+unfolding tradeBetween tradeChecks view
+returns-5 c =
+    let s = c .before .before .before .before .before .before .before .before .before .before .before .before .before .before .before .before .before .before in
+    let a = s .args in
+    let sold = sold-is (a .book .now) (s .pre .sound) (a .basket) (a .seller) _ (a .yen) (s .pre .basket) (s .pre .sells) (c .before .before .before .before .before .before .before .before .before .before .before .before .before .place .ensures) _ (c .before .before .before .before .before .before .before .before .before .before .owed-after .ensures) in
+    let bought = bought-is (a .book .now) (s .pre .sound) (a .basket) (a .buyer) _ (a .yen) (s .pre .basket) (s .pre .buys) (c .before .before .before .before .before .before .before .before .before .before .before .before .place2 .ensures) _ (c .before .before .before .before .before .before .before .before .due-after .ensures) in
+    let made = accepted-trade (a .book .now) (a .seller) (a .buyer) (a .basket) (a .yen) (s .pre) _ _ _ _ _ (c .before .before .write-trade .ensures) (c .before .before .before .before .before .before .before .before .before .before .before .before .before .place .ensures) (c .before .before .before .before .before .before .before .before .before .before .before .before .place2 .ensures)
+    (flag-yes _ _ (c .before .before .before .before .before .before .before .before .before .before .before .before .before .before .before .tradable .ensures) (c .before .before .before .before .before .before .before .before .before .before .before .before .before .before .if1 .left)) sold (c .before .before .before .before .before .before .before .if2 .left) bought (c .before .before .before .before .before .before .if3 .left) (c .before .before .before .before .if4 .left) in
+    search (answers, not-over, flag-yes, needs) depth 16
+
+pub trade-between-spec : {M : Type 1} → statement M
+trade-between-spec =
+    tie.close
+    (tie.spec
+    tradable-requires
+    same-length
+    returns
+    place-requires
+    place-requires-2
+    mul-owed-after
+    slice-read-owed-after
+    owed-after-requires
+    mul-due-after
+    slice-read-due-after
+    due-after-requires
+    same-length-2
+    returns-2
+    same-length-3
+    returns-3
+    slice-read-if4
+    same-length-4
+    returns-4
+    write-trade-requires
+    same-length-5
+    returns-5)

@@ -1,0 +1,96 @@
+use mathlib.Core.Path.{_≡_, refl, sym, _∙_, ap}
+use Prim.Native.Nat.{ℕ, _≤_, _<_, _-_, _+_, _*_}
+use native.Mathlib.Omega.{arith}
+use lib.ListN.{length, getD}
+use borrow.Author.Needs.{needs}
+use Rattle.allocation.proofs.TradeLaws.{moved, taken}
+use Rattle.allocation.proofs.trade.write_trade.Statement.{statement}
+use Rattle.allocation.proofs.trade.write_trade.Tie as tie
+use Rattle.allocation.proofs.trade.write_trade.Reads as reads
+use Rattle.allocation.proofs.trade.write_trade.Lts as lts
+use Rattle.std.proofs.num.wrapping_add_u64.Reads as wrapping-add-u64-reads
+use Rattle.std.proofs.num.wrapping_sub_u64.Reads as wrapping-sub-u64-reads
+
+-- src/trade.rt:54:43
+mul-wrapping-add-u64 : tie.Need-mul-wrapping-add-u64
+mul-wrapping-add-u64 c = search needs
+
+-- src/trade.rt:54:43
+slice-read-wrapping-add-u64 : tie.Need-slice-read-wrapping-add-u64
+slice-read-wrapping-add-u64 c = search needs
+
+-- src/trade.rt:54:9
+wrapping-add-u64-requires : tie.Need-wrapping-add-u64-requires
+wrapping-add-u64-requires c κs = search needs
+
+-- src/trade.rt:55:45
+mul-wrapping-sub-u64 : tie.Need-mul-wrapping-sub-u64
+mul-wrapping-sub-u64 c = search needs
+
+-- src/trade.rt:55:45
+slice-read-wrapping-sub-u64 : tie.Need-slice-read-wrapping-sub-u64
+slice-read-wrapping-sub-u64 c = search needs
+
+-- src/trade.rt:55:9
+wrapping-sub-u64-requires : tie.Need-wrapping-sub-u64-requires
+wrapping-sub-u64-requires c κs = search needs
+
+-- src/trade.rt:56:17
+slice-read-count : tie.Need-slice-read-count
+slice-read-count c = search needs
+
+-- src/trade.rt:56:17
+add-count : tie.Need-add-count
+add-count c = search needs
+
+-- src/trade.rt:57:5
+mul-book : tie.Need-mul-book
+mul-book c = search needs
+
+-- src/trade.rt:57:5
+slice-write-book : tie.Need-slice-write-book
+slice-write-book c = search needs
+
+-- src/trade.rt:58:5
+mul-book-2 : tie.Need-mul-book-2
+mul-book-2 c = search needs
+
+-- src/trade.rt:58:5
+slice-write-book-2 : tie.Need-slice-write-book-2
+slice-write-book-2 c = search needs
+
+-- src/trade.rt:59:5
+slice-write-book-3 : tie.Need-slice-write-book-3
+slice-write-book-3 c = search needs
+
+-- src/trade.rt:50:1
+same-length : tie.Need-same-length
+same-length c = search needs
+
+-- src/trade.rt:50:1
+returns : tie.Need-returns
+returns c =
+    let a = c .before .before .before .before .before .before .args in
+    let p = c .before .before .before .before .before .before .pre in
+    moved (a .book .now) (a .seller) (a .buyer) (a .yen) _ _ (c .before .before .before .wrapping-add-u64 .ensures)
+    (taken _ _ (a .yen) (omega (arith, c .before .before .slice-known3 .given (a .buyer))) (omega arith) (p .yen-most) (c .before .wrapping-sub-u64 .ensures))
+
+pub write-trade-spec : {M : Type 1} → statement M
+write-trade-spec =
+    tie.close
+    (tie.spec
+    mul-wrapping-add-u64
+    slice-read-wrapping-add-u64
+    wrapping-add-u64-requires
+    mul-wrapping-sub-u64
+    slice-read-wrapping-sub-u64
+    wrapping-sub-u64-requires
+    slice-read-count
+    add-count
+    mul-book
+    slice-write-book
+    mul-book-2
+    slice-write-book-2
+    slice-write-book-3
+    same-length
+    returns)

@@ -1,0 +1,5 @@
+-- What the contracts of the calls cite besides the rule.
+pub mod Cells
+pub mod Positions
+pub mod Checked
+pub mod Opened
