@@ -13,12 +13,11 @@ ghost use Rattle.rule.proofs.BookLaws.{SoundBook};
 ghost use Rattle.allocation.specs.Checked.{Named, Written, noticeSound, noticeWritten};
 use crate::cells;
 use book::layout;
+use book::limits;
 use book::ranges;
 use book::sound;
 use rule::Answer;
 use rule::Refusal;
-
-const LOTS_LIMIT: u64 = 200_000_000;
 
 // Does each entry name an issue of the day?
 fn all_of_day(named: &[u64], issues: u64) -> bool
@@ -112,7 +111,7 @@ fn notice_sound(book: &mut [u64], participant: u64, named: &[u64], lots: &[u64])
     if !all_distinct(named) {
         return Answer::Refused(Refusal::WrongEntry);
     }
-    if !ranges::row_at_most(lots, 0, lots.len(), LOTS_LIMIT) {
+    if !ranges::row_at_most(lots, 0, lots.len(), limits::NOTICE) {
         return Answer::Refused(Refusal::TooManyLots);
     }
     write_notice(book, participant, named, lots);

@@ -8,11 +8,10 @@ ghost use Rattle.rule.specs.Answers.{told};
 ghost use Rattle.allocation.specs.Opened.{Wide, Marks, Lengths, Tables, marksWritten, openWritten, openLengths};
 use crate::cells;
 use book::layout;
+use book::limits;
 use book::ranges;
 use rule::Answer;
 use rule::Refusal;
-
-const RECEIPT_LIMIT: u64 = 1_000_000_000_000;
 
 // The bytes of the codes as cells.
 fn widen(codes: &[u8], cells: &mut [u64])
@@ -118,7 +117,7 @@ fn open_lengths(
     if !ranges::terms_fit(terms, 0, issues) {
         return Answer::Refused(Refusal::WrongTerm);
     }
-    if !ranges::rows_at_most(receipts, 0, issues, participants, issues, RECEIPT_LIMIT) {
+    if !ranges::rows_at_most(receipts, 0, issues, participants, issues, limits::RECEIPT) {
         return Answer::Refused(Refusal::WrongReceiptOrPair);
     }
     let square = participants * participants;

@@ -10,16 +10,14 @@ ghost use Rattle.rule.specs.Sound.{positionLimit};
 ghost use Rattle.allocation.specs.Positions.{Movable, Tradable, movedOf};
 ghost use Rattle.allocation.specs.Checked.{Between, tradeBetween, tradeSound};
 use book::layout;
+use book::limits;
 use book::sound;
 use rule::Answer;
 use rule::Refusal;
 use rule::Yen;
 
+// "amount 0 or above 10^12 yen"
 const AMOUNT_LIMIT: u64 = 1_000_000_000_000;
-
-const POSITION_LIMIT: u64 = 10_000_000_000_000;
-
-const TRADE_LIMIT: u64 = 10_000;
 
 // Where the participant's position in the basket stands.
 fn place(basket: u64, participant: u64) -> usize
@@ -73,13 +71,13 @@ fn trade_between(book: &mut [u64], seller: u64, buyer: u64, basket: u64, yen: u6
     let at_buyer = place(basket, buyer);
     let sold = owed_after(book[at_seller], yen);
     let bought = due_after(book[at_buyer], yen);
-    if sold > POSITION_LIMIT {
+    if sold > limits::POSITION {
         return Answer::Refused(Refusal::PositionTooLarge);
     }
-    if bought > POSITION_LIMIT {
+    if bought > limits::POSITION {
         return Answer::Refused(Refusal::PositionTooLarge);
     }
-    if book[layout::TRADES] >= TRADE_LIMIT {
+    if book[layout::TRADES] >= limits::TRADES {
         return Answer::Refused(Refusal::TooManyTrades);
     }
     write_trade(book, at_seller, at_buyer, yen);

@@ -1,3 +1,4 @@
+-- `allocation::notice::all_distinct` meets its contract. Assumes nothing.
 use mathlib.Core.Path.{_≡_, refl, sym, _∙_, ap}
 use Prim.Native.Nat.{ℕ, _≤_, _<_, _-_, _+_, _*_}
 use native.Mathlib.Omega.{arith}
@@ -24,32 +25,25 @@ Inv-loop named j₀ j = (j ≤ length named) × (allBelow j (test named) ≡ tru
 abbrev μ-loop : tie.MeasureT-loop
 μ-loop named j₀ j = length named - j
 
--- src/notice.rt:58:5
 loop-holds : tie.Need-loop-holds Inv-loop μ-loop
 loop-holds c = (omega arith, search (scan, needs))
 
--- src/notice.rt:59:13
 is-new-requires : tie.Need-is-new-requires Inv-loop μ-loop
 is-new-requires c κs = omega arith
 
--- src/notice.rt:60:13
 returns : tie.Need-returns Inv-loop μ-loop
 unfolding distinct
 returns c = search (scan, needs)
 
--- src/notice.rt:62:9
 add-j : tie.Need-add-j Inv-loop μ-loop
 add-j c = omega arith
 
--- src/notice.rt:58:5
 loop-less : tie.Need-loop-less Inv-loop μ-loop
 loop-less c = omega arith
 
--- src/notice.rt:58:5
 loop-again : tie.Need-loop-again Inv-loop μ-loop
 loop-again c = (omega arith, search (scan, needs))
 
--- src/notice.rt:54:1
 returns-2 : tie.Need-returns-2 Inv-loop μ-loop
 unfolding distinct
 returns-2 c = search (scan, needs)

@@ -1,3 +1,4 @@
+-- `allocation::notice::all_of_day` meets its contract. Assumes nothing.
 use mathlib.Core.Path.{_≡_, refl, sym, _∙_, ap}
 use Prim.Native.Nat.{ℕ, _≤_, _<_, _-_, _+_, _*_}
 use native.Mathlib.Omega.{arith}
@@ -23,35 +24,27 @@ Inv-loop named issues j₀ j = (j ≤ length named) × (allBelow j (test named i
 abbrev μ-loop : tie.MeasureT-loop
 μ-loop named issues j₀ j = length named - j
 
--- src/notice.rt:28:5
 loop-holds : tie.Need-loop-holds Inv-loop μ-loop
 loop-holds c = (omega arith, search (scan, needs))
 
--- src/notice.rt:29:12
 mul-if1 : tie.Need-mul-if1 Inv-loop μ-loop
 mul-if1 c = omega arith
 
--- src/notice.rt:29:12
 shared-slice-read-if1 : tie.Need-shared-slice-read-if1 Inv-loop μ-loop
 shared-slice-read-if1 c = omega arith
 
--- src/notice.rt:30:13
 returns : tie.Need-returns Inv-loop μ-loop
 returns c = search (scan, le-ltb, lt-ltb, needs)
 
--- src/notice.rt:32:9
 add-j : tie.Need-add-j Inv-loop μ-loop
 add-j c = omega arith
 
--- src/notice.rt:28:5
 loop-less : tie.Need-loop-less Inv-loop μ-loop
 loop-less c = omega arith
 
--- src/notice.rt:28:5
 loop-again : tie.Need-loop-again Inv-loop μ-loop
 loop-again c = (omega arith, search (scan, le-ltb, lt-ltb, needs))
 
--- src/notice.rt:24:1
 returns-2 : tie.Need-returns-2 Inv-loop μ-loop
 returns-2 c = search (scan, needs)
 

@@ -1,3 +1,4 @@
+-- `allocation::notice::is_new` meets its contract. Assumes nothing.
 use mathlib.Core.Path.{_≡_, refl, sym, _∙_, ap}
 use Prim.Native.Nat.{ℕ, _≤_, _<_, _-_, _+_, _*_}
 use native.Mathlib.Omega.{arith}
@@ -23,43 +24,33 @@ Inv-loop named j issue i₀ i = (i ≤ j) × (allBelow i (test named j) ≡ true
 abbrev μ-loop : tie.MeasureT-loop
 μ-loop named j issue i₀ i = j - i
 
--- src/notice.rt:42:17
 mul-issue : tie.Need-mul-issue Inv-loop μ-loop
 mul-issue c = omega arith
 
--- src/notice.rt:42:17
 shared-slice-read-issue : tie.Need-shared-slice-read-issue Inv-loop μ-loop
 shared-slice-read-issue c = omega arith
 
--- src/notice.rt:44:5
 loop-holds : tie.Need-loop-holds Inv-loop μ-loop
 loop-holds c = (omega arith, search (scan, needs))
 
--- src/notice.rt:45:12
 mul-if1 : tie.Need-mul-if1 Inv-loop μ-loop
 mul-if1 c = omega arith
 
--- src/notice.rt:45:12
 shared-slice-read-if1 : tie.Need-shared-slice-read-if1 Inv-loop μ-loop
 shared-slice-read-if1 c = omega arith
 
--- src/notice.rt:46:13
 returns : tie.Need-returns Inv-loop μ-loop
 returns c = search (scan, denied, granted, needs)
 
--- src/notice.rt:48:9
 add-i : tie.Need-add-i Inv-loop μ-loop
 add-i c = omega arith
 
--- src/notice.rt:44:5
 loop-less : tie.Need-loop-less Inv-loop μ-loop
 loop-less c = omega arith
 
--- src/notice.rt:44:5
 loop-again : tie.Need-loop-again Inv-loop μ-loop
 loop-again c = (omega arith, search (scan, denied, granted, needs))
 
--- src/notice.rt:38:1
 returns-2 : tie.Need-returns-2 Inv-loop μ-loop
 returns-2 c = search (scan, needs)
 

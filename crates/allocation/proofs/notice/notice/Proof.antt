@@ -1,3 +1,4 @@
+-- `allocation::notice::notice` meets its contract. Assumes nothing.
 use mathlib.Core.Path.{_≡_, refl, sym, _∙_, ap}
 use Prim.Native.Nat.{ℕ, _≤_, _<_, _-_, _+_, _*_}
 use native.Mathlib.Omega.{arith}
@@ -16,29 +17,23 @@ use Rattle.allocation.proofs.notice.notice.Lts as lts
 use Rattle.allocation.proofs.notice.notice_sound.Reads as notice-sound-reads
 use Rattle.book.proofs.sound.sound.Reads as sound-reads
 
--- src/notice.rt:125:9
 sound-requires : tie.Need-sound-requires
 sound-requires c κs = search needs
 
--- src/notice.rt:126:9
 same-length : tie.Need-same-length
 same-length c = search needs
 
--- src/notice.rt:126:9
 returns : tie.Need-returns
 unfolding noticeOf refusal
 returns c = search (answers, flag-no, needs)
 
--- src/notice.rt:128:5
 notice-sound-requires : tie.Need-notice-sound-requires
 notice-sound-requires c κs =
     sound-book _ (λ j. omega (arith, c .before .before .before .before .before .before .slice-known .given j)) (flag-yes _ _ (c .before .before .sound .ensures) (c .before .if1 .left))
 
--- src/notice.rt:122:1
 same-length-2 : tie.Need-same-length-2
 same-length-2 c = search needs
 
--- src/notice.rt:122:1
 returns-2 : tie.Need-returns-2
 unfolding noticeOf refusal noticeSound
 returns-2 c = search (answers, flag-yes, needs)

@@ -1,3 +1,4 @@
+-- `allocation::notice::notice_sound` meets its contract. Assumes nothing.
 use mathlib.Core.Path.{_≡_, refl, sym, _∙_, ap}
 use Prim.Native.Nat.{ℕ, _≤_, _<_, _-_, _+_, _*_}
 use native.Mathlib.Omega.{arith}
@@ -23,61 +24,48 @@ use Rattle.allocation.proofs.notice.all_of_day.Reads as all-of-day-read
 use Rattle.allocation.proofs.notice.write_notice.Reads as write-notice-reads
 use Rattle.book.proofs.ranges.row_at_most.Reads as row-at-most-reads
 
--- src/notice.rt:97:8
 slice-read-if1 : tie.Need-slice-read-if1
 slice-read-if1 c = search needs
 
--- src/notice.rt:98:9
 returns : tie.Need-returns
 unfolding noticeSound noticeChecks view
 returns c = search (answers, needs) depth 12
 
--- src/notice.rt:100:23
 slice-read-if2 : tie.Need-slice-read-if2
 slice-read-if2 c = search needs
 
--- src/notice.rt:101:9
 returns-2 : tie.Need-returns-2
 unfolding noticeSound noticeChecks view
 returns-2 c = search (answers, needs) depth 12
 
--- src/notice.rt:104:9
 returns-3 : tie.Need-returns-3
 unfolding noticeSound noticeChecks view
 returns-3 c = search (answers, needs) depth 12
 
--- src/notice.rt:107:9
 returns-4 : tie.Need-returns-4
 unfolding noticeSound noticeChecks view
 returns-4 c = search (answers, needs) depth 12
 
--- src/notice.rt:109:27
 slice-read-all-of-day : tie.Need-slice-read-all-of-day
 slice-read-all-of-day c = search needs
 
--- src/notice.rt:109:9
 all-of-day-requires : tie.Need-all-of-day-requires
 all-of-day-requires c κs = search needs
 
--- src/notice.rt:110:9
 returns-5 : tie.Need-returns-5
 unfolding noticeSound noticeChecks view
 returns-5 c = search (answers, flag-no, flag-yes, needs) depth 16
 
--- src/notice.rt:112:9
 all-distinct-requires : tie.Need-all-distinct-requires
 all-distinct-requires c κs = search needs
 
--- src/notice.rt:113:9
 returns-6 : tie.Need-returns-6
 unfolding noticeSound noticeChecks view
 returns-6 c = search (answers, flag-no, flag-yes, needs) depth 16
 
--- src/notice.rt:115:9
 row-at-most-requires : tie.Need-row-at-most-requires
 row-at-most-requires c κs = search needs
 
--- src/notice.rt:116:9
 returns-7 : tie.Need-returns-7
 unfolding noticeSound noticeChecks view
 returns-7 c =
@@ -85,18 +73,15 @@ returns-7 c =
     let many : allBelow (length l) (λ i. leb (getD l i 0) noticeLimit) ≡ false = few-no l noticeLimit _ (c .before .row-at-most .ensures) (c .if7 .taken) in
     search (answers, flag-yes, needs) depth 16
 
--- src/notice.rt:118:5
 write-notice-requires : tie.Need-write-notice-requires
 write-notice-requires c κs =
     let s = c .before .before .before .before .before .before .before .before .before .before .before .before .before .before .before .before .before in
     writable (s .args .book .now) (s .pre) (s .args .participant) (s .args .named .now) (s .args .lots .now) (c .before .before .before .before .before .before .before .before .before .before .if2 .left) (c .before .before .before .before .before .before .before .before .if4 .left)
     (flag-yes _ _ (c .before .before .before .before .before .before .all-of-day .ensures) (c .before .before .before .before .before .if5 .left))
 
--- src/notice.rt:93:1
 same-length : tie.Need-same-length
 same-length c = search needs
 
--- src/notice.rt:93:1
 returns-8 : tie.Need-returns-8
 unfolding noticeSound noticeChecks view
 returns-8 c =

@@ -1,3 +1,4 @@
+-- `allocation::notice::write_notice` meets its contract. Assumes nothing.
 use mathlib.Core.Path.{_≡_, refl, sym, _∙_, ap}
 use Prim.Native.Nat.{ℕ, _≤_, _<_, _-_, _+_, _*_}
 use native.Mathlib.Omega.{arith}
@@ -12,39 +13,30 @@ use Rattle.allocation.proofs.notice.write_notice.Reads as reads
 use Rattle.allocation.proofs.notice.write_notice.Lts as lts
 use Rattle.allocation.proofs.notice.write_row.Reads as write-row-reads
 
--- src/notice.rt:86:18
 slice-read-issues : tie.Need-slice-read-issues
 slice-read-issues c = search needs
 
--- src/notice.rt:87:32
 mul-at : tie.Need-mul-at
 mul-at c = search needs
 
--- src/notice.rt:87:14
 add-at : tie.Need-add-at
 add-at c = search needs
 
--- src/notice.rt:88:15
 add-end : tie.Need-add-end
 add-end c = search needs
 
--- src/notice.rt:89:15
 mul-write-row : tie.Need-mul-write-row
 mul-write-row c = search needs
 
--- src/notice.rt:89:15
 sub-write-row : tie.Need-sub-write-row
 sub-write-row c = search needs
 
--- src/notice.rt:89:15
 part-write-row-start : tie.Need-part-write-row-start
 part-write-row-start c = search needs
 
--- src/notice.rt:89:15
 part-write-row-end : tie.Need-part-write-row-end
 part-write-row-end c = search needs
 
--- src/notice.rt:89:5
 write-row-requires : tie.Need-write-row-requires
 write-row-requires c κs =
     let s = c .before .before .before .before .before in
@@ -52,11 +44,9 @@ write-row-requires c κs =
     let long : _ = part-length b (noticesAt + 32 * s .args .participant) (getD b 1 0) (omega (arith, s .pre .size, s .pre .sender, s .pre .most)) in
     record { lengths = s .pre .entries .lengths; named = λ j l. omega (arith, s .pre .entries .named j l, long) }
 
--- src/notice.rt:82:1
 same-length : tie.Need-same-length
 same-length c = search needs
 
--- src/notice.rt:82:1
 returns : tie.Need-returns
 returns c =
     let s = c .before .before .before .before .before .before .before .before in

@@ -1,3 +1,4 @@
+-- `allocation::notice::write_row` meets its contract. Assumes nothing.
 use mathlib.Core.Path.{_≡_, refl, sym, _∙_, ap}
 use Prim.Native.Nat.{ℕ, _≤_, _<_, _-_, _+_, _*_}
 use native.Mathlib.Omega.{arith}
@@ -17,55 +18,42 @@ Inv-loop row₀ named lots j₀ row j = Entered row₀ named lots row j
 abbrev μ-loop : tie.MeasureT-loop
 μ-loop row₀ named lots j₀ row j = length named - j
 
--- src/notice.rt:72:5
 clear-requires : tie.Need-clear-requires Inv-loop μ-loop
 clear-requires c κs = search needs
 
--- src/notice.rt:74:5
 loop-holds : tie.Need-loop-holds Inv-loop μ-loop
 loop-holds c = entered-none _ _ _
 
--- src/notice.rt:75:21
 mul-issue : tie.Need-mul-issue Inv-loop μ-loop
 mul-issue c = omega arith
 
--- src/notice.rt:75:21
 shared-slice-read-issue : tie.Need-shared-slice-read-issue Inv-loop μ-loop
 shared-slice-read-issue c = omega arith
 
--- src/notice.rt:76:22
 mul-row : tie.Need-mul-row Inv-loop μ-loop
 mul-row c = omega arith
 
--- src/notice.rt:76:22
 shared-slice-read-row : tie.Need-shared-slice-read-row Inv-loop μ-loop
 shared-slice-read-row c = omega (arith, c .before .before .before .before .before .before .before .before .before .before .before .pre .lengths)
 
--- src/notice.rt:76:9
 mul-row-2 : tie.Need-mul-row-2 Inv-loop μ-loop
 mul-row-2 c = omega (arith, c .before .before .before .before .before .before .before .before .before .before .before .pre .named (c .before .before .before .loop .j) (omega arith), ap length (c .before .before .before .before .before .before .clear .ensures), length-zeros (length (c .before .before .before .before .before .before .before .before .before .before .before .args .row .now)), c .before .before .before .loop .inv .size)
 
--- src/notice.rt:76:9
 slice-write-row : tie.Need-slice-write-row Inv-loop μ-loop
 slice-write-row c = omega (arith, c .before .before .before .before .before .before .before .before .before .before .before .pre .named (c .before .before .before .loop .j) (omega arith), ap length (c .before .before .before .before .before .before .clear .ensures), length-zeros (length (c .before .before .before .before .before .before .before .before .before .before .before .args .row .now)), c .before .before .before .loop .inv .size)
 
--- src/notice.rt:77:9
 add-j : tie.Need-add-j Inv-loop μ-loop
 add-j c = omega arith
 
--- src/notice.rt:74:5
 loop-less : tie.Need-loop-less Inv-loop μ-loop
 loop-less c = omega arith
 
--- src/notice.rt:74:5
 loop-again : tie.Need-loop-again Inv-loop μ-loop
 loop-again c = entered-more _ _ _ (omega arith) (c .before .before .before .loop .inv)
 
--- src/notice.rt:68:1
 same-length : tie.Need-same-length Inv-loop μ-loop
 same-length c = c .before .loop .inv .size ∙ ap length (c .before .before .before .before .clear .ensures) ∙ length-zeros (length (c .before .before .before .before .before .before .before .before .before .args .row .now))
 
--- src/notice.rt:68:1
 returns : tie.Need-returns Inv-loop μ-loop
 returns c = entered-all _ _ _ _ (omega arith) (c .before .before .before .before .clear .ensures) (c .before .loop .inv)
 

@@ -1,3 +1,4 @@
+-- `allocation::trade::trade` meets its contract. Assumes nothing.
 use mathlib.Core.Path.{_≡_, refl, sym, _∙_, ap}
 use Prim.Native.Nat.{ℕ, _≤_, _<_, _-_, _+_, _*_}
 use native.Mathlib.Omega.{arith}
@@ -16,29 +17,23 @@ use Rattle.allocation.proofs.trade.trade.Lts as lts
 use Rattle.allocation.proofs.trade.trade_sound.Reads as trade-sound-reads
 use Rattle.book.proofs.sound.sound.Reads as sound-reads
 
--- src/trade.rt:120:9
 sound-requires : tie.Need-sound-requires
 sound-requires c κs = search needs
 
--- src/trade.rt:121:9
 same-length : tie.Need-same-length
 same-length c = search needs
 
--- src/trade.rt:121:9
 returns : tie.Need-returns
 unfolding tradeOf refusal
 returns c = search (answers, flag-no, needs)
 
--- src/trade.rt:123:5
 trade-sound-requires : tie.Need-trade-sound-requires
 trade-sound-requires c κs =
     sound-book _ (λ j. omega (arith, c .before .before .before .before .slice-known .given j)) (flag-yes _ _ (c .before .before .sound .ensures) (c .before .if1 .left))
 
--- src/trade.rt:117:1
 same-length-2 : tie.Need-same-length-2
 same-length-2 c = search needs
 
--- src/trade.rt:117:1
 returns-2 : tie.Need-returns-2
 unfolding tradeOf refusal tradeSound
 returns-2 c = search (answers, flag-yes, needs)

@@ -1,3 +1,4 @@
+-- `allocation::trade::trade_between` meets its contract. Assumes nothing.
 use mathlib.Core.Path.{_≡_, refl, sym, _∙_, ap}
 use Prim.Native.Nat.{ℕ, _≤_, _<_, _-_, _+_, _*_}
 use native.Mathlib.Omega.{arith}
@@ -19,61 +20,48 @@ use Rattle.allocation.proofs.trade.place.Reads as place-reads
 use Rattle.allocation.proofs.trade.write_trade.Reads as write-trade-reads
 use Rattle.book.proofs.sound.tradable.Reads as tradable-reads
 
--- src/trade.rt:67:9
 tradable-requires : tie.Need-tradable-requires
 tradable-requires c κs = search needs
 
--- src/trade.rt:68:9
 same-length : tie.Need-same-length
 same-length c = search needs
 
--- src/trade.rt:68:9
 returns : tie.Need-returns
 unfolding tradeBetween tradeChecks view
 returns c =
     search (answers, flag-no, flag-yes, needs) depth 12
 
--- src/trade.rt:70:9
 place-requires : tie.Need-place-requires
 place-requires c κs = search needs
 
--- src/trade.rt:71:9
 place-requires-2 : tie.Need-place-requires-2
 place-requires-2 c κs = search needs
 
--- src/trade.rt:72:27
 mul-owed-after : tie.Need-mul-owed-after
 mul-owed-after c = search needs
 
--- src/trade.rt:72:27
 slice-read-owed-after : tie.Need-slice-read-owed-after
 slice-read-owed-after c = search needs
 
--- src/trade.rt:72:9
 owed-after-requires : tie.Need-owed-after-requires
 owed-after-requires c κs =
     let s = c .before .before .before .before .before .before .before in
     movable (s .args .book .now) (s .pre .sound) (s .args .basket) (s .args .seller) _ (s .args .yen) (s .pre .basket) (s .pre .sells) (c .before .before .place .ensures) (s .pre .most)
 
--- src/trade.rt:73:28
 mul-due-after : tie.Need-mul-due-after
 mul-due-after c = search needs
 
--- src/trade.rt:73:28
 slice-read-due-after : tie.Need-slice-read-due-after
 slice-read-due-after c = search needs
 
--- src/trade.rt:73:9
 due-after-requires : tie.Need-due-after-requires
 due-after-requires c κs =
     let s = c .before .before .before .before .before .before .before .before .before in
     movable (s .args .book .now) (s .pre .sound) (s .args .basket) (s .args .buyer) _ (s .args .yen) (s .pre .basket) (s .pre .buys) (c .before .before .before .place2 .ensures) (s .pre .most)
 
--- src/trade.rt:75:9
 same-length-2 : tie.Need-same-length-2
 same-length-2 c = search needs
 
--- src/trade.rt:75:9
 returns-2 : tie.Need-returns-2
 unfolding tradeBetween tradeChecks view
 returns-2 c =
@@ -83,11 +71,9 @@ returns-2 c =
     let bought = bought-is (a .book .now) (s .pre .sound) (a .basket) (a .buyer) _ (a .yen) (s .pre .basket) (s .pre .buys) (c .before .before .before .before .before .place2 .ensures) _ (c .before .due-after .ensures) in
     search (answers, over, flag-yes, needs) depth 12
 
--- src/trade.rt:78:9
 same-length-3 : tie.Need-same-length-3
 same-length-3 c = search needs
 
--- src/trade.rt:78:9
 returns-3 : tie.Need-returns-3
 unfolding tradeBetween tradeChecks view
 returns-3 c =
@@ -97,15 +83,12 @@ returns-3 c =
     let bought = bought-is (a .book .now) (s .pre .sound) (a .basket) (a .buyer) _ (a .yen) (s .pre .basket) (s .pre .buys) (c .before .before .before .before .before .before .place2 .ensures) _ (c .before .before .due-after .ensures) in
     search (answers, over, not-over, flag-yes, needs) depth 12
 
--- src/trade.rt:80:8
 slice-read-if4 : tie.Need-slice-read-if4
 slice-read-if4 c = search needs
 
--- src/trade.rt:81:9
 same-length-4 : tie.Need-same-length-4
 same-length-4 c = search needs
 
--- src/trade.rt:81:9
 returns-4 : tie.Need-returns-4
 unfolding tradeBetween tradeChecks view
 returns-4 c =
@@ -115,15 +98,12 @@ returns-4 c =
     let bought = bought-is (a .book .now) (s .pre .sound) (a .basket) (a .buyer) _ (a .yen) (s .pre .basket) (s .pre .buys) (c .before .before .before .before .before .before .before .before .place2 .ensures) _ (c .before .before .before .before .due-after .ensures) in
     search (answers, not-over, flag-yes, needs) depth 16
 
--- src/trade.rt:83:5
 write-trade-requires : tie.Need-write-trade-requires
 write-trade-requires c κs = search needs
 
--- src/trade.rt:63:1
 same-length-5 : tie.Need-same-length-5
 same-length-5 c = search needs
 
--- src/trade.rt:63:1
 returns-5 : tie.Need-returns-5
 unfolding tradeBetween tradeChecks view
 returns-5 c =

@@ -1,3 +1,4 @@
+-- `allocation::trade::trade_sound` meets its contract. Assumes nothing.
 use mathlib.Core.Path.{_≡_, refl, sym, _∙_, ap}
 use Prim.Native.Nat.{ℕ, _≤_, _<_, _-_, _+_, _*_}
 use native.Mathlib.Omega.{arith}
@@ -13,58 +14,46 @@ use Rattle.allocation.proofs.trade.trade_sound.Reads as reads
 use Rattle.allocation.proofs.trade.trade_sound.Lts as lts
 use Rattle.allocation.proofs.trade.trade_between.Reads as trade-between-reads
 
--- src/trade.rt:92:8
 slice-read-if1 : tie.Need-slice-read-if1
 slice-read-if1 c = search needs
 
--- src/trade.rt:93:9
 returns : tie.Need-returns
 unfolding tradeSound tradeBetween tradeChecks view
 returns c = search (answers, needs) depth 24
 
--- src/trade.rt:95:24
 slice-read-participants : tie.Need-slice-read-participants
 slice-read-participants c = search needs
 
--- src/trade.rt:97:9
 returns-2 : tie.Need-returns-2
 unfolding tradeSound tradeBetween tradeChecks view
 returns-2 c = search (answers, needs) depth 24
 
--- src/trade.rt:100:9
 returns-3 : tie.Need-returns-3
 unfolding tradeSound tradeBetween tradeChecks view
 returns-3 c = search (answers, needs) depth 24
 
--- src/trade.rt:103:9
 returns-4 : tie.Need-returns-4
 unfolding tradeSound tradeBetween tradeChecks view
 returns-4 c = search (answers, needs) depth 24
 
--- src/trade.rt:106:9
 returns-5 : tie.Need-returns-5
 unfolding tradeSound tradeBetween tradeChecks view
 returns-5 c = search (answers, needs) depth 24
 
--- src/trade.rt:109:9
 returns-6 : tie.Need-returns-6
 unfolding tradeSound tradeBetween tradeChecks view
 returns-6 c = search (answers, needs) depth 24
 
--- src/trade.rt:112:9
 returns-7 : tie.Need-returns-7
 unfolding tradeSound tradeBetween tradeChecks view
 returns-7 c = search (answers, needs) depth 24
 
--- src/trade.rt:114:5
 trade-between-requires : tie.Need-trade-between-requires
 trade-between-requires c κs = search needs
 
--- src/trade.rt:88:1
 same-length : tie.Need-same-length
 same-length c = search needs
 
--- src/trade.rt:88:1
 returns-8 : tie.Need-returns-8
 unfolding tradeSound tradeBetween tradeChecks view
 returns-8 c = search (answers, needs) depth 24

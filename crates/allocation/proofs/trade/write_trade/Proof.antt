@@ -1,3 +1,4 @@
+-- `allocation::trade::write_trade` meets its contract. Assumes nothing.
 use mathlib.Core.Path.{_≡_, refl, sym, _∙_, ap}
 use Prim.Native.Nat.{ℕ, _≤_, _<_, _-_, _+_, _*_}
 use native.Mathlib.Omega.{arith}
@@ -11,63 +12,48 @@ use Rattle.allocation.proofs.trade.write_trade.Lts as lts
 use Rattle.std.proofs.num.wrapping_add_u64.Reads as wrapping-add-u64-reads
 use Rattle.std.proofs.num.wrapping_sub_u64.Reads as wrapping-sub-u64-reads
 
--- src/trade.rt:54:43
 mul-wrapping-add-u64 : tie.Need-mul-wrapping-add-u64
 mul-wrapping-add-u64 c = search needs
 
--- src/trade.rt:54:43
 slice-read-wrapping-add-u64 : tie.Need-slice-read-wrapping-add-u64
 slice-read-wrapping-add-u64 c = search needs
 
--- src/trade.rt:54:9
 wrapping-add-u64-requires : tie.Need-wrapping-add-u64-requires
 wrapping-add-u64-requires c κs = search needs
 
--- src/trade.rt:55:45
 mul-wrapping-sub-u64 : tie.Need-mul-wrapping-sub-u64
 mul-wrapping-sub-u64 c = search needs
 
--- src/trade.rt:55:45
 slice-read-wrapping-sub-u64 : tie.Need-slice-read-wrapping-sub-u64
 slice-read-wrapping-sub-u64 c = search needs
 
--- src/trade.rt:55:9
 wrapping-sub-u64-requires : tie.Need-wrapping-sub-u64-requires
 wrapping-sub-u64-requires c κs = search needs
 
--- src/trade.rt:56:17
 slice-read-count : tie.Need-slice-read-count
 slice-read-count c = search needs
 
--- src/trade.rt:56:17
 add-count : tie.Need-add-count
 add-count c = search needs
 
--- src/trade.rt:57:5
 mul-book : tie.Need-mul-book
 mul-book c = search needs
 
--- src/trade.rt:57:5
 slice-write-book : tie.Need-slice-write-book
 slice-write-book c = search needs
 
--- src/trade.rt:58:5
 mul-book-2 : tie.Need-mul-book-2
 mul-book-2 c = search needs
 
--- src/trade.rt:58:5
 slice-write-book-2 : tie.Need-slice-write-book-2
 slice-write-book-2 c = search needs
 
--- src/trade.rt:59:5
 slice-write-book-3 : tie.Need-slice-write-book-3
 slice-write-book-3 c = search needs
 
--- src/trade.rt:50:1
 same-length : tie.Need-same-length
 same-length c = search needs
 
--- src/trade.rt:50:1
 returns : tie.Need-returns
 returns c =
     let a = c .before .before .before .before .before .before .args in
