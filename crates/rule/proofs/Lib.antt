@@ -14,6 +14,7 @@ pub mod LayoutLaws
 pub mod AnswerLaws
 pub mod SoundLaws
 pub mod BookLaws
+pub mod CallLaws
 pub mod TradeLaws
 pub mod TradeStored
 pub mod NoticeLaws
