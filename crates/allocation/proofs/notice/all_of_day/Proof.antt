@@ -34,7 +34,7 @@ shared-slice-read-if1 : tie.Need-shared-slice-read-if1 Inv-loop μ-loop
 shared-slice-read-if1 c = omega arith
 
 returns : tie.Need-returns Inv-loop μ-loop
-returns c = search (scan, le-ltb, lt-ltb, needs)
+returns c = search (scan, le-ltb, needs)
 
 add-j : tie.Need-add-j Inv-loop μ-loop
 add-j c = omega arith
@@ -43,7 +43,7 @@ loop-less : tie.Need-loop-less Inv-loop μ-loop
 loop-less c = omega arith
 
 loop-again : tie.Need-loop-again Inv-loop μ-loop
-loop-again c = (omega arith, search (scan, le-ltb, lt-ltb, needs))
+loop-again c = (omega arith, search (scan, needs))
 
 returns-2 : tie.Need-returns-2 Inv-loop μ-loop
 returns-2 c = search (scan, needs)
