@@ -1,0 +1,38 @@
+-- What one match asks, and what it was filled with. Assumes nothing.
+use mathlib.Core.Path.{_≡_}
+use mathlib.Core.List.{List}
+use Prim.Native.Nat.{ℕ, _*_, _≤_, _<_}
+use lib.ListN.{length, getD, take}
+use Rattle.rule.specs.Filling.{worth, Filled}
+use Rattle.filling.specs.Rated.{Rates, termsIn}
+use Rattle.filling.specs.Turns.{padded, Emptied}
+use Rattle.filling.specs.declared.Filling.{Filling}
+
+pub record Matchable (issues : ℕ) (terms usable order rates : List ℕ) (amount : ℕ) (lots : List ℕ) : Type 0 where
+  pub issues-least : 1 ≤ issues
+  pub issues-most : issues ≤ 32
+  pub cells : 6 * issues ≤ length terms
+  pub wide : length usable ≡ 32
+  pub long : length order ≡ 32
+  pub places : length lots ≡ 32
+  pub rated : Rates (termsIn issues terms) rates
+  pub usable-most : (i : ℕ) → i < issues → getD usable i 0 ≤ 200_000_000
+  pub inside : (k : ℕ) → k < issues → getD order k 0 < issues
+  pub amount-most : amount ≤ 10_000_000_000_000
+
+-- all usable lots are worth less than the amount, and the match has nothing yet
+pub record Forcible (issues : ℕ) (terms usable rates : List ℕ) (reached amount : ℕ) (lots : List ℕ) : Type 0 where
+  pub issues-least : 1 ≤ issues
+  pub cells : 6 * issues ≤ length terms
+  pub rated : Rates (termsIn issues terms) rates
+  pub emptied : Emptied issues lots usable
+  pub sum : reached ≡ worth (termsIn issues terms) (take issues usable)
+  pub below : reached < amount
+  pub amount-most : amount ≤ 10_000_000_000_000
+
+-- the code's answer is the rule's
+pub record FilledAs (m : Filled) (r : Filling) (lots : List ℕ) : Type 0 where
+  pub covered : r .covered .0 ≡ m .covered
+  pub lots-are : lots ≡ padded (m .lots)
+  pub forced : r .forced ≡ m .forced
+  pub forced-lots : r .«forced_lots» .0 ≡ m .forcedLots
