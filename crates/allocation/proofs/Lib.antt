@@ -3,3 +3,4 @@ pub mod CellLaws
 pub mod TradeLaws
 pub mod NoticeLaws
 pub mod OpenLaws
+pub mod CloseLaws

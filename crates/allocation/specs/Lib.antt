@@ -3,3 +3,4 @@ pub mod Cells
 pub mod Positions
 pub mod Checked
 pub mod Opened
+pub mod Closed
