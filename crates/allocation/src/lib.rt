@@ -1,5 +1,5 @@
 // The calls on a book: opening, trade, notice, close. Each answers for all arguments, and a refused one changes nothing.
-pub mod cells;
+mod cells;
 pub mod close;
 pub mod notice;
 pub mod opening;
