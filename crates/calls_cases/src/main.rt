@@ -1,6 +1,7 @@
-// Opening, trade and notice on days: every refusal that they can give, and both sides of every bound. A line is a call with its
-// reply; an accepted one says how many cells of the book it changed, and shows some of them.
+// Opening, trade, notice and close on days: every refusal that they can give, and both sides of every bound. A line is a call with its
+// reply; an accepted one says how many cells it changed, and shows some of them.
 ghost use Prim.Native.Nat.{_≤_};
+use allocation::close;
 use allocation::notice;
 use allocation::opening;
 use allocation::trade;
@@ -1037,6 +1038,54 @@ fn late_positions(cells: &mut Book) {
     );
 }
 
+// ---- close
+
+fn lend_lists(cells: &Book, receipts: &mut [u64], pairs: &mut [u64], a: usize, b: usize) -> Answer {
+    let c = at_most(a, receipts.len());
+    let d = at_most(b, pairs.len());
+    close::close(cells, &mut receipts[0..c], &mut pairs[0..d])
+}
+
+// Lists of so many places are lent, of which one more is shown: it must stay 9.
+fn close_of(name: &[u8], cells: &Book, a: usize, b: usize) {
+    let mut receipts = [9u64; 10];
+    let mut pairs = [9u64; 64];
+    let answer = lend_lists(cells, &mut receipts, &mut pairs, a, b);
+    let written = std::num::wrapping_add_u64(
+        changed(&[9u64; 10], &receipts),
+        changed(&[9u64; 64], &pairs),
+    );
+    title(b"close, ", name);
+    if reply(answer, written) {
+        io::write_all(1, b", receipts");
+        show(&receipts, 0, 10);
+        io::write_all(1, b", pairs of basket 1");
+        show(&pairs, 9, 18);
+        io::write_all(1, b", last");
+        show(&pairs, 62, 64);
+    }
+    io::write_all(1, b"\n");
+}
+
+// A day of three participants and three issues, with deliveries in its tally and a pair of today.
+fn closes(cells: &mut Book) {
+    small_day(cells);
+    put(cells, layout::TALLY, 5);
+    put(cells, layout::TALLY + 1, 18446744073709551609);
+    put(cells, layout::TALLY + 32, 11);
+    put(cells, layout::TODAY + 146, 1);
+    put(cells, layout::RUNS, 2);
+    close_of(b"two runs done", cells, 9, 63);
+    close_of(b"two runs done, and both lists short", cells, 8, 62);
+    put(cells, layout::RUNS, 3);
+    close_of(b"a place for receipts short", cells, 8, 63);
+    close_of(b"a place for pairs short", cells, 9, 62);
+    close_of(b"as many places as needed", cells, 9, 63);
+    close_of(b"once more, with a place more", cells, 10, 64);
+    put(cells, layout::RUNS, 4);
+    close_of(b"four runs done, and both lists short", cells, 8, 62);
+}
+
 fn openings() {
     opening_sizes();
     opening_lengths();
@@ -1077,4 +1126,5 @@ fn main() {
     all_notices(&mut cells);
     books();
     late_positions(&mut cells);
+    closes(&mut cells);
 }
