@@ -10,10 +10,10 @@ ghost use Rattle.allocation.specs.Cells.{Fits, Copies};
 pub fn clear(cells: &mut [u64])
     ensures { λ _. ⌜ now (cells .exit) ≡ zeros (length (now (cells .entry))) ⌝ }
 {
-    let mut i = 0;
-    while i < cells.len() {
-        cells[i] = 0;
-        i += 1;
+    let mut place = 0;
+    while place < cells.len() {
+        cells[place] = 0;
+        place += 1;
     }
 }
 

@@ -27,8 +27,8 @@ mul-cells c = omega arith
 slice-write-cells : tie.Need-slice-write-cells Inv-loop μ-loop
 slice-write-cells c = omega arith
 
-add-i : tie.Need-add-i Inv-loop μ-loop
-add-i c = omega arith
+add-place : tie.Need-add-place Inv-loop μ-loop
+add-place c = omega arith
 
 loop-less : tie.Need-loop-less Inv-loop μ-loop
 loop-less c = omega (arith, c .before .loop .inv .size)
@@ -45,4 +45,4 @@ returns c =
     written-all none (zeros n) (omega arith) (length-zeros n) (λ k l. getD-zeros n k) (c .before .loop .inv)
 
 pub clear-spec : {M : Type 1} → statement M
-clear-spec = tie.close (tie.spec Inv-loop μ-loop loop-holds mul-cells slice-write-cells add-i loop-less loop-again same-length returns)
+clear-spec = tie.close (tie.spec Inv-loop μ-loop loop-holds mul-cells slice-write-cells add-place loop-less loop-again same-length returns)
