@@ -1,5 +1,8 @@
 // Which kinds a basket takes, and how many lots may be used.
 ghost use mathlib.Core.Path.{_≡_};
+ghost use Prim.Native.Nat.{_+_, _≤_};
+ghost use mathlib.Core.Bool.{_&&_};
+ghost use lib.ListN.{length, getD};
 ghost use Rattle.lists.specs.Tests.{pick};
 ghost use Rattle.rule.specs.Value.{Terms};
 ghost use Rattle.rule.specs.Baskets.{within};
@@ -35,6 +38,17 @@ pub fn is_unmarked(redeemed: u64, interest: u64) -> bool
     ensures { λ r. ⌜ ((t : Terms) → t .redeemed ≡ redeemed → t .interest ≡ interest → r ≡ unmarked t) ⌝ }
 {
     redeemed == 0 && interest == 0
+}
+
+// Whether the issue whose six terms stand there is one of the basket, and unmarked.
+pub fn is_eligible(terms: &[u64], at: usize, basket: u64) -> bool
+    requires { ⌜ at + 6 ≤ length (now terms) ⌝ }
+    ensures { λ r. ⌜ ((t : Terms) → t .kind ≡ getD (now (terms .entry)) at 0 → t .redeemed ≡ getD (now (terms .entry)) (at + 4) 0 → t .interest ≡ getD (now (terms .entry)) (at + 5) 0 → r ≡ (within basket t && unmarked t)) ⌝ }
+{
+    if !is_within(basket, terms[at]) {
+        return false;
+    }
+    is_unmarked(terms[at + 4], terms[at + 5])
 }
 
 // The lots where the issue may be used, else none.

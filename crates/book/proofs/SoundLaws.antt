@@ -100,16 +100,10 @@ first : (b : List ℕ) (o : ℕ) → getD (block b o 6) 0 0 ≡ getD b o 0
 first b o = block-get b o 6 0 (omega arith) ∙ ap (λ (j : ℕ). getD b j 0) (omega arith)
 
 -- what an issue's cells say of its terms
-module _ (b : List ℕ) (k o : ℕ) {r : Bool} where
-  pub eligible-no : ((t : Terms) → t .kind ≡ getD b o 0 → r ≡ within k t) → not r ≡ true → false ≡ eligibleAt b k o
-  unfolding eligibleAt
-  eligible-no h e = let t = termsOf (block b o 6) in rw (sym (h t (first b o)) ∙ not-true r e)
-
-  pub eligible-yes : {s : Bool} → ((t : Terms) → t .kind ≡ getD b o 0 → r ≡ within k t) → not r ≡ false
-      → ((t : Terms) → t .redeemed ≡ getD b (o + 4) 0 → t .interest ≡ getD b (o + 5) 0 → s ≡ unmarked t) → s ≡ eligibleAt b k o
-  unfolding eligibleAt
-  eligible-yes h e g = let t = termsOf (block b o 6) in
-      rw (sym (h t (first b o)) ∙ not-false r e) (g t (block-get b o 6 4 (omega arith)) (block-get b o 6 5 (omega arith)))
+pub eligible-is : (b : List ℕ) (k o : ℕ) {r : Bool}
+    → ((t : Terms) → t .kind ≡ getD b o 0 → t .redeemed ≡ getD b (o + 4) 0 → t .interest ≡ getD b (o + 5) 0 → r ≡ (within k t && unmarked t)) → r ≡ eligibleAt b k o
+unfolding eligibleAt
+eligible-is b k o h = h (termsOf (block b o 6)) (first b o) (block-get b o 6 4 (omega arith)) (block-get b o 6 5 (omega arith))
 
 -- ---- a basket's positions
 

@@ -5,7 +5,7 @@ ghost use lib.ListN.{getD};
 ghost use Rattle.rule.specs.Sound.{positionLimit, tradable as tradableOf};
 ghost use Rattle.rule.specs.Layout.{plus, minus, soundBook, positionsAt};
 ghost use Rattle.book.specs.Ranges.{Room, rowPasses};
-ghost use Rattle.book.specs.Sized.{Sized, Limited, bookTerms, eligibleAt, isWithin, whileRuns, basketFits, positionsFit, tallyFits, codesFit, givenFits, stateFits};
+ghost use Rattle.book.specs.Sized.{Sized, Limited, bookTerms, isWithin, whileRuns, basketFits, positionsFit, tallyFits, codesFit, givenFits, stateFits};
 use crate::layout;
 use crate::limits;
 use crate::ranges;
@@ -42,17 +42,6 @@ fn while_runs(runs: u64, limit: u64) -> u64
     if runs < 3 { limit } else { 0 }
 }
 
-// Whether the issue whose terms stand there is one of the basket, and unmarked.
-fn is_eligible(book: &[u64], at: usize, basket: usize) -> bool
-    requires { ⌜ Room (now book) at 6 ⌝ }
-    ensures { λ r. ⌜ r ≡ eligibleAt (now (book .entry)) basket at ⌝ }
-{
-    if !baskets::is_within(basket as u64, book[at]) {
-        return false;
-    }
-    baskets::is_unmarked(book[at + 4], book[at + 5])
-}
-
 // Whether the basket has an unmarked issue.
 pub fn tradable(book: &[u64], basket: usize) -> bool
     requires { ⌜ Sized (now book) ⌝ }
@@ -62,7 +51,7 @@ pub fn tradable(book: &[u64], basket: usize) -> bool
     let mut o = layout::TERMS;
     let mut i = 0;
     while i < issues {
-        if is_eligible(book, o, basket) {
+        if baskets::is_eligible(book, o, basket as u64) {
             return true;
         }
         o += layout::TERM;

@@ -327,18 +327,6 @@ fn chosen(choice: Choice) -> u64
     any.issue
 }
 
-// An unmarked issue of the basket.
-fn is_eligible(terms: &[u64], basket: u64, i: usize) -> bool
-    requires { ⌜ 6 * i + 6 ≤ length (now terms) ⌝ }
-    ensures { λ r. ⌜ ((t : Terms) → t .kind ≡ getD (now (terms .entry)) (6 * i) 0 → t .redeemed ≡ getD (now (terms .entry)) (6 * i + 4) 0 → t .interest ≡ getD (now (terms .entry)) (6 * i + 5) 0 → r ≡ (within basket t && unmarked t)) ⌝ }
-{
-    let at = 6 * i;
-    if !baskets::is_within(basket, terms[at]) {
-        return false;
-    }
-    baskets::is_unmarked(terms[at + 4], terms[at + 5])
-}
-
 // The issue that is forced in run 3, in one way down the issues.
 pub fn forced_issue(terms: &[u64], basket: u64, issues: usize, notified: &[u64; 32]) -> u64
     requires { ⌜ (issues ≤ 32) × (6 * issues ≤ length (now terms)) ⌝ }
@@ -355,7 +343,7 @@ pub fn forced_issue(terms: &[u64], basket: u64, issues: usize, notified: &[u64; 
     let mut i = issues;
     while i > 0 {
         i -= 1;
-        if is_eligible(terms, basket, i) {
+        if baskets::is_eligible(terms, 6 * i, basket) {
             choice = with_eligible(choice, i as u64, terms[6 * i], Lots(notified[i]));
         }
     }

@@ -37,6 +37,9 @@ loop-holds c = down-none _ _ _ _ refl refl refl refl refl
 sub-i : tie.Need-sub-i Inv-loop μ-loop
 sub-i c = omega arith
 
+mul-is-eligible : tie.Need-mul-is-eligible Inv-loop μ-loop
+mul-is-eligible c = omega (arith, c .before .before .before .pre .0, c .before .loop .inv .at)
+
 is-eligible-requires : tie.Need-is-eligible-requires Inv-loop μ-loop
 is-eligible-requires c κs = omega (arith, c .before .before .before .pre .1, c .before .loop .inv .at)
 
@@ -49,11 +52,11 @@ mul-with-eligible-2 c = omega arith
 shared-slice-read-with-eligible : tie.Need-shared-slice-read-with-eligible Inv-loop μ-loop
 shared-slice-read-with-eligible c = omega arith
 
-mul-t18 : tie.Need-mul-t18 Inv-loop μ-loop
-mul-t18 c = omega arith
+mul-t19 : tie.Need-mul-t19 Inv-loop μ-loop
+mul-t19 c = omega arith
 
-element-copy-out-t21 : tie.Need-element-copy-out-t21 Inv-loop μ-loop
-element-copy-out-t21 c = omega arith
+element-copy-out-t22 : tie.Need-element-copy-out-t22 Inv-loop μ-loop
+element-copy-out-t22 c = omega arith
 
 with-eligible-requires : tie.Need-with-eligible-requires Inv-loop μ-loop
 with-eligible-requires c κs = search needs
@@ -96,12 +99,13 @@ forced-issue-spec =
     μ-loop
     loop-holds
     sub-i
+    mul-is-eligible
     is-eligible-requires
     mul-with-eligible
     mul-with-eligible-2
     shared-slice-read-with-eligible
-    mul-t18
-    element-copy-out-t21
+    mul-t19
+    element-copy-out-t22
     with-eligible-requires
     loop-less
     loop-again

@@ -5,7 +5,7 @@ use native.Mathlib.Omega.{arith}
 use borrow.Author.Needs.{needs}
 use Rattle.book.specs.Sized.{eligibleAt}
 use Rattle.book.proofs.ScanLaws.{Passed, passed-none, passed-more, passed-all}
-use Rattle.book.proofs.SoundLaws.{tradable-some, tradable-none, is-not}
+use Rattle.book.proofs.SoundLaws.{eligible-is, tradable-some, tradable-none, is-not}
 use Rattle.lists.proofs.TestLaws.{said-yes, said-no}
 use Rattle.rule.specs.Layout.{termsAt}
 use Rattle.book.proofs.sound.tradable.Statement.{statement}
@@ -27,7 +27,9 @@ is-eligible-requires : tie.Need-is-eligible-requires Inv-loop μ-loop
 is-eligible-requires c κs = search needs
 
 returns : tie.Need-returns Inv-loop μ-loop
-returns c = tradable-some _ _ (c .before .before .before .loop .inv .begin) (omega arith) (said-yes _ _ (c .before .is-eligible .ensures) (c .if1 .taken))
+returns c =
+    let a = c .before .before .before .before .before .before .args in
+    tradable-some (a .book .now) (a .basket) (c .before .before .before .loop .inv .begin) (omega arith) (said-yes _ _ (eligible-is _ _ _ (c .before .is-eligible .ensures)) (c .if1 .taken))
 
 add-o : tie.Need-add-o Inv-loop μ-loop
 add-o c = omega arith
@@ -39,7 +41,7 @@ loop-less : tie.Need-loop-less Inv-loop μ-loop
 loop-less c = omega arith
 
 loop-again : tie.Need-loop-again Inv-loop μ-loop
-loop-again c = passed-more (c .before .before .before .loop .inv) (omega arith) (is-not (said-no _ _ (c .before .is-eligible .ensures) (c .if1 .left)))
+loop-again c = passed-more (c .before .before .before .loop .inv) (omega arith) (is-not (said-no _ _ (eligible-is _ _ _ (c .before .is-eligible .ensures)) (c .if1 .left)))
 
 returns-2 : tie.Need-returns-2 Inv-loop μ-loop
 returns-2 c = tradable-none (c .before .before .before .before .args .book .now) _ (passed-all (c .before .loop .inv) (omega arith))

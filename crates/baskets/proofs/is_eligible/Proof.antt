@@ -1,11 +1,8 @@
--- `filling::is_eligible` meets its contract. Assumes nothing.
+-- `baskets::is_eligible` meets its contract. Assumes nothing.
 use borrow.Author.Needs.{needs}
 use Rattle.lists.proofs.TestLaws.{row-stop, row-go, flag-no, flag-yes}
-use Rattle.filling.proofs.is_eligible.Statement.{statement}
-use Rattle.filling.proofs.is_eligible.Tie as tie
-
-mul-at : tie.Need-mul-at
-mul-at c = search needs
+use Rattle.baskets.proofs.is_eligible.Statement.{statement}
+use Rattle.baskets.proofs.is_eligible.Tie as tie
 
 mul-is-within : tie.Need-mul-is-within
 mul-is-within c = search needs
@@ -49,7 +46,6 @@ pub is-eligible-spec : {M : Type 1} → statement M
 is-eligible-spec =
     tie.close
     (tie.spec
-    mul-at
     mul-is-within
     shared-slice-read-is-within
     is-within-requires
