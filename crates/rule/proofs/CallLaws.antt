@@ -26,20 +26,20 @@ use Rattle.rule.proofs.NoticeLaws.{Noticeable, noticed-shaped, noticed-
 
 -- ---- an accepted call has passed every row of its check table
 
-abbrev isRefused : Reply → Bool
+abbrev pub isRefused : Reply → Bool
 isRefused accepted = false
 isRefused (counts m l) = false
 isRefused (refused n) = true
 
-passed : {X : Type 0} (e : ℕ) (new old : X) → answer e accepted new old .0 ≡ accepted → e ≡ 0
+pub passed : {X : Type 0} (e : ℕ) (new old : X) → answer e accepted new old .0 ≡ accepted → e ≡ 0
 passed zero new old h = refl
 passed (suc e) new old h = absurd (both-ways true refl (ap isRefused h))
 
-left : {X : Type 0} (e : ℕ) (new old : X) → e ≡ 0 → answer e accepted new old .1 ≡ new
+pub left : {X : Type 0} (e : ℕ) (new old : X) → e ≡ 0 → answer e accepted new old .1 ≡ new
 left e new old h = rw h
 
 -- every row has a number
-abbrev numbered : List (ℕ × Bool) → Bool
+abbrev pub numbered : List (ℕ × Bool) → Bool
 numbered [] = true
 numbered (c ∷ cs) = ltb 0 (c .0) && numbered cs
 
@@ -48,7 +48,7 @@ unfolding first
 one-row n true cs p e = absurd (omega (arith, ltb-true 0 n p))
 one-row n false cs p e = (refl, e)
 
-no-row : (cs : List (ℕ × Bool)) → numbered cs ≡ true → first cs ≡ 0 → Every (λ c. c .1 ≡ false) cs
+pub no-row : (cs : List (ℕ × Bool)) → numbered cs ≡ true → first cs ≡ 0 → Every (λ c. c .1 ≡ false) cs
 no-row [] p e = tt
 no-row (c ∷ cs) p e =
     let r : (c .1 ≡ false) × (first cs ≡ 0) = one-row (c .0) (c .1) cs (and-left (ltb 0 (c .0)) (numbered cs) p) e in
@@ -56,7 +56,7 @@ no-row (c ∷ cs) p e =
 
 -- ---- what is stored is a sound book with its day in view
 
-stored-sound : (y : Day) (s : Shaped y) → Signed y s → SoundDay y → (b : List ℕ) → length b ≡ bookLength → (view (stored b y) ≡ y) × (soundBook (stored b y) ≡ true)
+pub stored-sound : (y : Day) (s : Shaped y) → Signed y s → SoundDay y → (b : List ℕ) → length b ≡ bookLength → (view (stored b y) ≡ y) × (soundBook (stored b y) ≡ true)
 unfolding soundBook bookFits
 stored-sound y s g d b size =
     let v : view (stored b y) ≡ y = view-stored y s g b size in
@@ -65,7 +65,7 @@ stored-sound y s g d b size =
 -- ---- opening
 
 module _ (n m : ℕ) (codes terms receipts pairs b : List ℕ) where
-  openable : first (openChecks (bookFits b) n m codes terms receipts pairs) ≡ 0 → Openable n m codes terms receipts pairs
+  pub openable : first (openChecks (bookFits b) n m codes terms receipts pairs) ≡ 0 → Openable n m codes terms receipts pairs
   unfolding openChecks
   openable h =
       let f : Every (λ c. c .1 ≡ false) (openChecks (bookFits b) n m codes terms receipts pairs) = no-row (openChecks (bookFits b) n m codes terms receipts pairs) refl h in
@@ -80,6 +80,11 @@ module _ (n m : ℕ) (codes terms receipts pairs b : List ℕ) where
         receipts-fit = not-false _ (f .1 .1 .1 .1 .1 .1 .1 .1 .0);
         pairs-fit = not-false _ (f .1 .1 .1 .1 .1 .1 .1 .1 .1 .0);
       }
+
+  -- an accepted opening passed every row
+  pub open-passed : openOf n m codes terms receipts pairs b .0 ≡ accepted → Openable n m codes terms receipts pairs
+  unfolding openOf
+  open-passed a = openable (passed _ (stored (zeros bookLength) (opened (givenOf n m codes terms receipts pairs))) b a)
 
   -- an accepted opening leaves a sound book, with the given day in it
   pub opening-sound : openOf n m codes terms receipts pairs b .0 ≡ accepted
@@ -96,14 +101,14 @@ module _ (n m : ℕ) (codes terms receipts pairs b : List ℕ) where
 
 -- ---- trade and notice: the book was sound, and every other row was passed too
 
-was-sound : (b : List ℕ) → ((j : ℕ) → getD b j 0 < 18446744073709551616) → (cs : List (ℕ × Bool)) → refusal (soundBook b) cs ≡ 0 → SoundBook b × (first cs ≡ 0)
+pub was-sound : (b : List ℕ) → ((j : ℕ) → getD b j 0 < 18446744073709551616) → (cs : List (ℕ × Bool)) → refusal (soundBook b) cs ≡ 0 → SoundBook b × (first cs ≡ 0)
 unfolding refusal
 was-sound b words cs h =
     let r : (not (soundBook b) ≡ false) × (first cs ≡ 0) = one-row 5 (not (soundBook b)) cs refl h in
     (sound-book b words (not-false _ (r .0)), r .1)
 
 module _ (b : List ℕ) (words : (j : ℕ) → getD b j 0 < 18446744073709551616) (seller buyer k yen : ℕ) where
-  tradeable : first (tradeChecks (view b) seller buyer k yen) ≡ 0 → Tradeable (view b) seller buyer k yen
+  pub tradeable : first (tradeChecks (view b) seller buyer k yen) ≡ 0 → Tradeable (view b) seller buyer k yen
   unfolding tradeChecks
   tradeable h =
       let f : Every (λ c. c .1 ≡ false) (tradeChecks (view b) seller buyer k yen) = no-row (tradeChecks (view b) seller buyer k yen) refl h in
@@ -143,6 +148,13 @@ module _ (b : List ℕ) (words : (j : ℕ) → getD b j 0 < 18446744073709551616
         signs : {a c x z : ℕ} → x ≡ a → z ≡ c → min a c ≡ 0 → a ≤ positionLimit → c ≤ positionLimit → Signs x z
         signs e f one la lc = rw (e, f) (record { one = one; out = omega arith; back = omega arith })
 
+  -- an accepted trade had a sound book, and passed every row
+  pub trade-passed : tradeOf b seller buyer k yen .0 ≡ accepted → SoundBook b × Tradeable (view b) seller buyer k yen
+  unfolding tradeOf
+  trade-passed a =
+      let w : SoundBook b × (first (tradeChecks (view b) seller buyer k yen) ≡ 0) = was-sound b words (tradeChecks (view b) seller buyer k yen) (passed _ (stored b (traded (view b) seller buyer k yen)) b a) in
+      (w .0, tradeable (w .1))
+
   -- an accepted trade leaves a sound book, with the traded day in it
   pub trade-sound : tradeOf b seller buyer k yen .0 ≡ accepted
       → (view (tradeOf b seller buyer k yen .1) ≡ traded (view b) seller buyer k yen) × (soundBook (tradeOf b seller buyer k yen .1) ≡ true)
@@ -157,7 +169,7 @@ module _ (b : List ℕ) (words : (j : ℕ) → getD b j 0 < 18446744073709551616
       (stored-sound y (traded-shaped (view b) (shape (w .0) h) seller buyer k yen h) (traded-signed (w .0) h) (traded-sound (view b) (shape (w .0) h) seller buyer k yen h (w .0 .day)) b (w .0 .readable .size))
 
 module _ (b : List ℕ) (words : (j : ℕ) → getD b j 0 < 18446744073709551616) (p : ℕ) (issues lots : List ℕ) where
-  noticeable : first (noticeChecks (view b) p issues lots) ≡ 0 → Noticeable (view b) p issues lots
+  pub noticeable : first (noticeChecks (view b) p issues lots) ≡ 0 → Noticeable (view b) p issues lots
   unfolding noticeChecks
   noticeable h =
       let f : Every (λ c. c .1 ≡ false) (noticeChecks (view b) p issues lots) = no-row (noticeChecks (view b) p issues lots) refl h in
@@ -168,6 +180,13 @@ module _ (b : List ℕ) (words : (j : ℕ) → getD b j 0 < 18446744073709551616
         named = λ j l. ltb-true _ _ (all-at (λ j. ltb (getD issues j 0) (view b .given .issues)) (length issues) (not-false _ (f .1 .1 .1 .1 .0)) j l);
         few = λ j l. leb-true _ _ (all-at (λ j. leb (getD lots j 0) noticeLimit) (length lots) (not-false _ (f .1 .1 .1 .1 .1 .1 .0)) j (omega arith));
       }
+
+  -- an accepted notice had a sound book, and passed every row
+  pub notice-passed : noticeOf b p issues lots .0 ≡ accepted → SoundBook b × Noticeable (view b) p issues lots
+  unfolding noticeOf
+  notice-passed a =
+      let w : SoundBook b × (first (noticeChecks (view b) p issues lots) ≡ 0) = was-sound b words (noticeChecks (view b) p issues lots) (passed _ (stored b (noticed (view b) p issues lots)) b a) in
+      (w .0, noticeable (w .1))
 
   -- an accepted notice leaves a sound book, with the noticed day in it
   pub notice-sound : noticeOf b p issues lots .0 ≡ accepted

@@ -29,10 +29,10 @@ pub record Order (issues : ℕ) (order : List ℕ) : Type 0 where
 -- ---- the two ways of filling
 
 module _ (ts : List Terms) (priced : Priced ts) (usable : List ℕ) (even : length usable ≡ length ts) (order : List ℕ) (named : Order (length ts) order) where
-  abbrev may : ℕ → ℕ
+  abbrev pub may : ℕ → ℕ
   may i = getD usable i 0
 
-  nothing-good : (bound : ℕ → ℕ) → Good ts bound (nothing (length usable))
+  pub nothing-good : (bound : ℕ → ℕ) → Good ts bound (nothing (length usable))
   nothing-good bound = record {
     sized = length-table (length usable) (λ i. 0) ∙ even;
     bounded = λ i. omega (arith, getD-zeros (length usable) i);
@@ -54,15 +54,15 @@ module _ (ts : List Terms) (priced : Priced ts) (usable : List ℕ) (even : leng
       kept = omega (arith, nothing-worth);
     }
 
-    first-good : Units ts priced usable (target amount) (firstPass ts usable order amount)
+    pub first-good : Units ts priced usable (target amount) (firstPass ts usable order amount)
     unfolding firstPass
     first-good = pass-good ts priced usable (target amount) order (named .inside) (nothing (length usable)) nothing-units
 
     -- the second pass's bound
-    abbrev remainders : ℕ → ℕ
+    abbrev pub remainders : ℕ → ℕ
     remainders i = withRemainder usable (firstPass ts usable order amount) i
 
-    first-within : Good ts remainders (firstPass ts usable order amount)
+    pub first-within : Good ts remainders (firstPass ts usable order amount)
     unfolding withRemainder
     first-within = record { sized = first-good .good .sized; bounded = λ i. omega arith }
 
@@ -70,7 +70,7 @@ module _ (ts : List Terms) (priced : Priced ts) (usable : List ℕ) (even : leng
     unfolding secondPass
     second-good = walk-good ts priced amount remainders order (named .inside) (firstPass ts usable order amount) first-within
 
-    second-within : Good ts may (secondPass ts usable order amount)
+    pub second-within : Good ts may (secondPass ts usable order amount)
     unfolding withRemainder
     second-within = record { sized = second-good .sized; bounded = λ i. omega (arith, second-good .bounded i, first-good .good .bounded i) }
 

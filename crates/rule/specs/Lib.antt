@@ -11,4 +11,5 @@ pub mod Sound
 pub mod Calls
 pub mod Layout
 pub mod Answers
+pub mod Claims
 pub mod WorkedDays
