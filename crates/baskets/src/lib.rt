@@ -1,11 +1,12 @@
 // Which kinds a basket takes, and how many lots may be used.
 ghost use mathlib.Core.Path.{_≡_};
-ghost use Prim.Native.Nat.{_+_, _≤_};
+ghost use Prim.Native.Nat.{ℕ, _+_, _≤_};
 ghost use mathlib.Core.Bool.{_&&_};
 ghost use lib.ListN.{length, getD};
 ghost use Rattle.lists.specs.Tests.{pick};
 ghost use Rattle.rule.specs.Value.{Terms};
 ghost use Rattle.rule.specs.Baskets.{within};
+ghost use Rattle.baskets.specs.Kinds.{KindsOf};
 ghost use Rattle.rule.specs.Allocable.{unmarked, allocable as allocableOf};
 use rule::Lots;
 
@@ -20,17 +21,31 @@ const COMPOSITION: [[u8; 7]; 7] = [
     [1, 1, 1, 1, 1, 1, 1],
 ];
 
+// The kinds that a basket takes: its row of the table. There is no basket beyond G, and it takes none.
+pub fn kinds_of(basket: u64) -> [u8; 7]
+    ensures { λ r. ⌜ KindsOf basket r ⌝ }
+{
+    if basket > 6 {
+        return [0; 7];
+    }
+    COMPOSITION[basket as usize]
+}
+
+// Whether the kind is one of them.
+fn is_among(kinds: &[u8; 7], kind: u64) -> bool
+    ensures { λ r. ⌜ ((k : ℕ) → (t : Terms) → KindsOf k (now (kinds .entry)) → t .kind ≡ kind → r ≡ within k t) ⌝ }
+{
+    match kind {
+        0..=6 => kinds[kind as usize] == 1,
+        _ => false,
+    }
+}
+
 // Whether an issue of the kind is in the basket.
 pub fn is_within(basket: u64, kind: u64) -> bool
     ensures { λ r. ⌜ ((t : Terms) → t .kind ≡ kind → r ≡ within basket t) ⌝ }
 {
-    if basket > 6 {
-        return false;
-    }
-    match kind {
-        0..=6 => COMPOSITION[basket as usize][kind as usize] == 1,
-        _ => false,
-    }
+    is_among(&kinds_of(basket), kind)
 }
 
 // "An issue is unmarked if both are 0".
@@ -40,15 +55,25 @@ pub fn is_unmarked(redeemed: u64, interest: u64) -> bool
     redeemed == 0 && interest == 0
 }
 
+// Whether the issue whose six terms stand there is of one of a basket's kinds, and unmarked. A loop over issues reads the
+// basket's kinds once.
+pub fn is_eligible_among(terms: &[u64], at: usize, kinds: &[u8; 7]) -> bool
+    requires { ⌜ at + 6 ≤ length (now terms) ⌝ }
+    ensures { λ r. ⌜ ((k : ℕ) → (t : Terms) → KindsOf k (now (kinds .entry)) → t .kind ≡ getD (now (terms .entry)) at 0 → t .redeemed ≡ getD (now (terms .entry)) (at + 4) 0 → t .interest ≡ getD (now (terms .entry)) (at + 5) 0 → r ≡ (within k t && unmarked t)) ⌝ }
+{
+    if !is_among(kinds, terms[at]) {
+        return false;
+    }
+    is_unmarked(terms[at + 4], terms[at + 5])
+}
+
 // Whether the issue whose six terms stand there is one of the basket, and unmarked.
 pub fn is_eligible(terms: &[u64], at: usize, basket: u64) -> bool
     requires { ⌜ at + 6 ≤ length (now terms) ⌝ }
     ensures { λ r. ⌜ ((t : Terms) → t .kind ≡ getD (now (terms .entry)) at 0 → t .redeemed ≡ getD (now (terms .entry)) (at + 4) 0 → t .interest ≡ getD (now (terms .entry)) (at + 5) 0 → r ≡ (within basket t && unmarked t)) ⌝ }
 {
-    if !is_within(basket, terms[at]) {
-        return false;
-    }
-    is_unmarked(terms[at + 4], terms[at + 5])
+    let kinds = kinds_of(basket);
+    is_eligible_among(terms, at, &kinds)
 }
 
 // The lots where the issue may be used, else none.

@@ -1,64 +1,58 @@
 -- The ranges of opening data as tests on cells. Assumes nothing.
-use mathlib.Core.Path.{_≡_, refl, sym, _∙_, ap}
-use mathlib.Core.Bool.{Bool, true, false, _&&_, and-assoc}
+use mathlib.Core.Path.{_≡_, refl, sym, _∙_, ap, ap₂}
+use mathlib.Core.Bool.{Bool, _&&_}
 use mathlib.Core.List.{List, [], map}
-use Prim.Native.Nat.{ℕ, zero, suc, _+_, _-_, _*_, _≤_, _<_, max}
+use Prim.Native.Nat.{ℕ, zero, suc, _+_, _-_, _*_, _≤_, _<_}
 use native.Mathlib.Nat.{mul-le-mul-left, mul-zero, mul-suc, add-zero}
 use native.Mathlib.Omega.{arith}
 use lib.Dec.{leb, eqb}
+use lib.Bits.{bitOr}
 use lib.ListN.{length, getD, List·getD-map}
 use Rattle.lists.specs.Tests.{allBelow}
 use Rattle.lists.specs.Tables.{table, row, cell}
 use Rattle.lists.specs.Parts.{block, grid}
-use Rattle.lists.proofs.TestLaws.{all-none, all-ext, go, stop}
+use Rattle.lists.proofs.TestLaws.{all-ext}
 use Rattle.lists.proofs.TableLaws.{getD-table}
 use Rattle.lists.proofs.PartLaws.{block-get, grid-get}
 use Rattle.rule.specs.Day.{termsOf}
 use Rattle.rule.specs.Sound.{termsFit, allTermsFit, atMost, marksFit}
 use Rattle.book.specs.Ranges.{Room, Rows, Squares, rowPasses, rowAtMost, termsAtFit, squareFits}
-use Rattle.book.proofs.ScanLaws.{all-and, all-split, max-leb}
+use Rattle.book.proofs.ScanLaws.{all-and, all-split, all-overlap, bits-below}
 
 -- ---- a row
-
-module _ (b : List ℕ) (at bound : ℕ) where
-  -- the largest of four cells
-  pub four-is : {x y z : ℕ} → x ≡ max (getD b at 0) (getD b (at + 1) 0) → y ≡ max (getD b (at + 2) 0) (getD b (at + 3) 0) → z ≡ max x y
-      → leb z bound ≡ rowAtMost b at 4 bound
-  unfolding allBelow
-  four-is e f g =
-      let t : ℕ → Bool = λ i. leb (getD b (at + i) 0) bound in
-      rw (g, e, f, max-leb, max-leb (getD b at 0), max-leb (getD b (at + 2) 0), add-zero) (sym (and-assoc (leb (getD b at 0) bound && t 1) (t 2) (t 3)))
-
--- a row gone through by fours: its cells below i passed the test
-pub record Through (test : ℕ → Bool) (b : List ℕ) (at m i : ℕ) : Type 0 where
-  pub here : i ≤ m
-  pub before : rowPasses test b at i ≡ true
-
-pub through-none : (test : ℕ → Bool) (b : List ℕ) (at m : ℕ) → Through test b at m 0
-through-none test b at m = record { here = omega arith; before = all-none _ }
 
 row-split : (test : ℕ → Bool) (b : List ℕ) (at i n : ℕ) → rowPasses test b at (i + n) ≡ (rowPasses test b at i && rowPasses test b (at + i) n)
 row-split test b at i n =
     all-split (λ k. test (getD b (at + k) 0)) i n
     ∙ ap (λ (r : Bool). rowPasses test b at i && r) (all-ext _ _ n (λ k l. ap (λ (j : ℕ). test (getD b j 0)) (omega arith)))
 
-module _ {test : ℕ → Bool} {b : List ℕ} {at m i : ℕ} (h : Through test b at m i) where
-  four-is-next : {r : Bool} → rowPasses test b (at + i) 4 ≡ r → rowPasses test b at (i + 4) ≡ r
-  four-is-next e = row-split test b at i 4 ∙ go _ _ (h .before) e
+row-overlap : (test : ℕ → Bool) (b : List ℕ) (at a o n : ℕ) → o ≤ a → a ≤ o + n → (rowPasses test b at a && rowPasses test b (at + o) n) ≡ rowPasses test b at (o + n)
+row-overlap test b at a o n h l =
+    ap (λ (r : Bool). rowPasses test b at a && r) (all-ext _ _ n (λ k p. ap (λ (j : ℕ). test (getD b j 0)) (omega arith)))
+    ∙ all-overlap (λ k. test (getD b (at + k) 0)) a o n h l
 
-  pub through-more : i + 4 ≤ m → rowPasses test b (at + i) 4 ≡ true → Through test b at m (i + 4)
-  through-more l e = record { here = l; before = four-is-next e }
+-- the bits of a row's marks, from those of its parts
+module _ (b : List ℕ) (at : ℕ) where
+  pub four-is : leb (bitOr (bitOr (bitOr (getD b at 0) (getD b (at + 1) 0)) (getD b (at + 2) 0)) (getD b (at + 3) 0)) 1 ≡ rowAtMost b at 4 1
+  unfolding allBelow
+  four-is =
+      let x = getD b at 0 in
+      let y = getD b (at + 1) 0 in
+      let z = getD b (at + 2) 0 in
+      rw (bits-below (bitOr (bitOr x y) z) (getD b (at + 3) 0) 1, bits-below (bitOr x y) z 1, bits-below x y 1, add-zero)
 
-  -- what is left of the row decides
-  pub through-rest : rowPasses test b (at + i) (m - i) ≡ rowPasses test b at m
-  through-rest =
-      let e : m ≡ i + (m - i) = omega (arith, h .here) in
-      sym (ap (rowPasses test b at) e ∙ row-split test b at i (m - i) ∙ go _ _ (h .before) refl)
+  module _ (m first last : ℕ) (f : leb first 1 ≡ rowAtMost b at 4 1) (l : leb last 1 ≡ rowAtMost b (at + (m - 4)) 4 1) where
+    pub ends-are : 4 ≤ m → m ≤ 8 → leb (bitOr first last) 1 ≡ rowAtMost b at m 1
+    ends-are h k =
+        let e : (m - 4) + 4 ≡ m = omega arith in
+        bits-below first last 1 ∙ ap₂ _&&_ f l ∙ row-overlap (λ c. leb c 1) b at 4 (m - 4) 4 (omega arith) (omega arith) ∙ ap (λ (n : ℕ). rowAtMost b at n 1) e
 
-  pub through-stop : i + 4 ≤ m → rowPasses test b (at + i) 4 ≡ false → rowPasses test b at m ≡ false
-  through-stop l e =
-      let d : m ≡ i + 4 + (m - (i + 4)) = omega arith in
-      ap (rowPasses test b at) d ∙ row-split test b at (i + 4) (m - (i + 4)) ∙ stop _ _ (four-is-next e)
+    pub three-are : (middle : ℕ) → leb middle 1 ≡ rowAtMost b (at + 4) 4 1 → 8 ≤ m → m ≤ 12 → leb (bitOr (bitOr first middle) last) 1 ≡ rowAtMost b at m 1
+    three-are middle g h k =
+        let e : (m - 4) + 4 ≡ m = omega arith in
+        let eight = bits-below first middle 1 ∙ ap₂ _&&_ f g ∙ sym (row-split (λ c. leb c 1) b at 4 4) in
+        bits-below (bitOr first middle) last 1 ∙ ap₂ _&&_ eight l
+        ∙ row-overlap (λ c. leb c 1) b at 8 (m - 4) 4 (omega arith) (omega arith) ∙ ap (λ (n : ℕ). rowAtMost b at n 1) e
 
 -- ---- rows
 

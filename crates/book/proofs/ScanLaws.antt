@@ -2,7 +2,7 @@
 use mathlib.Core.Path.{_≡_, refl, sym, _∙_, ap, ap₂}
 use mathlib.Core.Bool.{Bool, true, false, _&&_, and-true, and-assoc}
 use mathlib.Core.List.{List, [], _∷_}
-use Prim.Native.Nat.{ℕ, zero, suc, _+_, _-_, _*_, _^_, _≤_, _<_, max}
+use Prim.Native.Nat.{ℕ, zero, suc, _+_, _-_, _*_, _^_, _%_, _≤_, _<_}
 use native.Mathlib.Nat.{add-zero}
 use native.Mathlib.Decide.{decLe}
 use native.Mathlib.Numerals.{add-one}
@@ -36,13 +36,23 @@ all-split t i (suc n) =
     ap (λ (m : ℕ). allBelow m t) e ∙ ap (λ (b : Bool). b && t (i + n)) (all-split t i n)
     ∙ and-assoc (allBelow i t) (allBelow n (λ k. t (i + k))) (t (i + n))
 
-pub max-leb : (a b c : ℕ) → leb (max a b) c ≡ (leb a c && leb b c)
-max-leb a b c = go (decLe a c) (decLe b c)
+and-again : (a b c : Bool) → ((a && b) && (b && c)) ≡ (a && (b && c))
+and-again true true c = refl
+and-again true false c = refl
+and-again false b c = refl
+
+-- two parts that may overlap
+pub all-overlap : (t : ℕ → Bool) (a o n : ℕ) → o ≤ a → a ≤ o + n → (allBelow a t && allBelow n (λ k. t (o + k))) ≡ allBelow (o + n) t
+all-overlap t a o n h l =
+    let first : a ≡ o + (a - o) = omega arith in
+    let second : n ≡ (a - o) + (n - (a - o)) = omega arith in
+    let parts : allBelow n s ≡ (allBelow (a - o) s && allBelow (n - (a - o)) (λ k. s (a - o + k))) = ap (λ (m : ℕ). allBelow m s) second ∙ all-split s (a - o) (n - (a - o)) in
+    ap₂ _&&_ (ap (λ (m : ℕ). allBelow m t) first ∙ all-split t o (a - o)) parts
+    ∙ and-again (allBelow o t) (allBelow (a - o) s) (allBelow (n - (a - o)) (λ k. s (a - o + k)))
+    ∙ sym (all-split t o n ∙ ap (λ (r : Bool). allBelow o t && r) parts)
   where
-    go : Dec (a ≤ c) → Dec (b ≤ c) → leb (max a b) c ≡ (leb a c && leb b c)
-    go (yes h) (yes k) = rw (le-leb (max a b) c (omega arith), le-leb a c h, le-leb b c k)
-    go (yes h) (no k) = rw (lt-leb (max a b) c (omega arith), le-leb a c h, lt-leb b c (omega arith))
-    go (no h) k = rw (lt-leb (max a b) c (omega arith), lt-leb a c (omega arith))
+    s : ℕ → Bool
+    s k = t (o + k)
 
 -- ---- a list of tests with a return for each
 
@@ -124,3 +134,13 @@ module _ (a b : ℕ) where
       nought : (x : ℕ) → eqb x 0 ≡ leb x 0
       nought zero = refl
       nought (suc x) = ne-eqb (suc x) 0 (λ e. omega arith) ∙ sym (lt-leb (suc x) 0 (omega arith))
+
+-- a number, and that number moved up: one of them has the highest bit where the number is above the bound
+pub above-is : {r : ℕ} (x bound : ℕ) → x < 18446744073709551616 → bound ≤ 9223372036854775807
+    → r ≡ (x + (9223372036854775807 - bound)) % 18446744073709551616 → leb (bitOr x r) 9223372036854775807 ≡ leb x bound
+above-is {r} x bound f l e = bits-below x r 63 ∙ go (decLe x bound) (decLe x 9223372036854775807)
+  where
+    go : Dec (x ≤ bound) → Dec (x ≤ 9223372036854775807) → (leb x 9223372036854775807 && leb r 9223372036854775807) ≡ leb x bound
+    go (yes h) k = rw (le-leb x bound h, le-leb x 9223372036854775807 (omega arith), le-leb r 9223372036854775807 (omega arith))
+    go (no h) (yes k) = rw (lt-leb x bound (omega arith), le-leb x 9223372036854775807 k, lt-leb r 9223372036854775807 (omega arith))
+    go (no h) (no k) = rw (lt-leb x bound (omega arith), lt-leb x 9223372036854775807 (omega arith))

@@ -81,8 +81,8 @@ at-most-still false limit n m t = go (atMost 0 n m t) refl
     go true e = rw (e, at-most-less 0 limit n m t (omega arith) e)
     go false e = rw e (sym (and-no (atMost limit n m t)))
 
-pub while-small : (runs : ℕ) {x : ℕ} → x ≡ whileRuns runs positionLimit → x ≤ positionLimit
-while-small runs e = rw e (pick-elim (λ (y : ℕ). y ≤ positionLimit) (ltb runs 3) positionLimit 0 (omega arith) (omega arith))
+pub while-small : (runs limit : ℕ) {x : ℕ} → x ≡ whileRuns runs limit → x ≤ limit
+while-small runs limit e = rw e (pick-elim (λ (y : ℕ). y ≤ limit) (ltb runs 3) limit 0 (omega arith) (omega arith))
 
 -- ---- signed cells
 

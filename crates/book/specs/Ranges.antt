@@ -17,6 +17,15 @@ pub record Rows (cells : List ℕ) (at stride n m : ℕ) : Type 0 where
   pub wide : m ≤ stride
   pub room : at + stride * n ≤ length cells
 
+-- and a bound on each cell, which has not the highest bit
+pub record LimitedRow (cells : List ℕ) (at m bound : ℕ) : Type 0 where
+  pub room : Room cells at m
+  pub small : bound ≤ 9223372036854775807
+
+pub record LimitedRows (cells : List ℕ) (at stride n m bound : ℕ) : Type 0 where
+  pub rows : Rows cells at stride n m
+  pub small : bound ≤ 9223372036854775807
+
 -- for each of the seven baskets n rows of n cells
 pub record Squares (cells : List ℕ) (at apart stride n : ℕ) : Type 0 where
   pub wide : n ≤ stride

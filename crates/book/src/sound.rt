@@ -2,6 +2,7 @@
 ghost use mathlib.Core.Path.{_≡_};
 ghost use Prim.Native.Nat.{_+_, _*_, _≤_, _<_};
 ghost use lib.ListN.{getD};
+ghost use lib.Dec.{leb};
 ghost use Rattle.rule.specs.Sound.{positionLimit, tradable as tradableOf};
 ghost use Rattle.rule.specs.Layout.{plus, minus, soundBook, positionsAt};
 ghost use Rattle.book.specs.Ranges.{Room, rowPasses};
@@ -35,6 +36,14 @@ pub fn is_within(cell: u64, limit: u64) -> bool
     std::num::wrapping_add_u64(cell, limit) <= 2 * limit
 }
 
+// The highest bit is set exactly where one side is above the limit.
+fn beyond(cell: u64, limit: u64) -> u64
+    requires { ⌜ limit ≤ positionLimit ⌝ }
+    ensures { λ r. ⌜ leb r 9223372036854775807 ≡ isWithin limit cell ⌝ }
+{
+    ranges::above(std::num::wrapping_add_u64(cell, limit), 2 * limit)
+}
+
 // "after three runs positions and notices are zero"
 fn while_runs(runs: u64, limit: u64) -> u64
     ensures { λ r. ⌜ r ≡ whileRuns runs limit ⌝ }
@@ -48,10 +57,11 @@ pub fn tradable(book: &[u64], basket: usize) -> bool
     ensures { λ r. ⌜ r ≡ tradableOf basket (bookTerms (now (book .entry))) ⌝ }
 {
     let issues = book[layout::ISSUES] as usize;
+    let kinds = baskets::kinds_of(basket as u64);
     let mut o = layout::TERMS;
     let mut i = 0;
     while i < issues {
-        if baskets::is_eligible(book, o, basket as u64) {
+        if baskets::is_eligible_among(book, o, &kinds) {
             return true;
         }
         o += layout::TERM;
@@ -107,14 +117,13 @@ fn row_within(book: &[u64], at: usize, m: usize, limit: u64) -> bool
     requires { ⌜ (Room (now book) at m) × (limit ≤ positionLimit) ⌝ }
     ensures { λ r. ⌜ r ≡ rowPasses (isWithin limit) (now (book .entry)) at m ⌝ }
 {
+    let mut bits = 0;
     let mut i = 0;
     while i < m {
-        if !is_within(book[at + i], limit) {
-            return false;
-        }
+        bits = bits | beyond(book[at + i], limit);
         i += 1;
     }
-    true
+    bits <= ranges::LOW_BITS
 }
 
 // "a tally is within 10^11 × runs done"

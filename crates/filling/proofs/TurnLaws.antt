@@ -150,9 +150,6 @@ module _ {w had usable reached goal : ℕ} (p : Rounding w had usable reached go
     pub whole-addable : Addable w rest (usable / unit * unit)
     whole-addable = addable (omega (arith, p .usable-most))
 
-    pub more-addable : Addable w rest (had + unit)
-    more-addable = addable (omega (arith, p .usable-most, p .bounded))
-
     pub room-payable : Payable w (goal - rest)
     room-payable = record { rate-least = rate-low (p .part .rated); rate-most = p .part .rated .most; yen-most = omega (arith, p .goal-most) }
 

@@ -1,7 +1,7 @@
 -- The forced issue, chosen on the way down the issues: what is known of those met so far. Assumes nothing.
 use mathlib.Core.Path.{_≡_}
 use mathlib.Core.List.{List, [], _∷_}
-use Prim.Native.Nat.{ℕ, _-_, _≤_, _<_, min}
+use Prim.Native.Nat.{ℕ, _-_, _*_, _≤_, _<_, min}
 use lib.ListN.{length, getD}
 use lib.Dec.{eqb}
 use Rattle.lists.specs.Folds.{keep, Every}
@@ -10,6 +10,11 @@ use Rattle.rule.specs.Filling.{orElse, mostNotified, fifthLargest}
 use Rattle.filling.specs.declared.Best.{Best}
 use Rattle.filling.specs.declared.Fifth.{Fifth}
 use Rattle.filling.specs.declared.Choice.{Choice}
+
+-- the terms of the day's issues, six cells to an issue
+pub record Listed (issues : ℕ) (terms : List ℕ) : Type 0 where
+  pub issues-most : issues ≤ 32
+  pub cells : 6 * issues ≤ length terms
 
 -- the issues of kind 2
 abbrev pub tenYear : List Terms → List ℕ → List ℕ

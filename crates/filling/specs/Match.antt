@@ -8,6 +8,10 @@ use Rattle.filling.specs.Rated.{Rates, termsIn}
 use Rattle.filling.specs.Turns.{padded, Emptied}
 use Rattle.filling.specs.declared.Filling.{Filling}
 
+-- the amount of a match
+pub record Coverable (amount : ℕ) : Type 0 where
+  pub amount-most : amount ≤ 10_000_000_000_000
+
 pub record Matchable (issues : ℕ) (terms usable order rates : List ℕ) (amount : ℕ) (lots : List ℕ) : Type 0 where
   pub issues-least : 1 ≤ issues
   pub issues-most : issues ≤ 32

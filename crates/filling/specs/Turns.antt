@@ -104,6 +104,10 @@ pub record RowTurned (pass : ℕ) (t : Terms) (lots usable : List ℕ) (i reache
 
 -- ---- what filling asks: a match that has nothing yet
 
+-- a row of a cell for each issue
+pub record Row (lots : List ℕ) : Type 0 where
+  pub places : length lots ≡ 32
+
 pub record Emptied (issues : ℕ) (lots usable : List ℕ) : Type 0 where
   pub empty : lots ≡ zeros 32
   pub wide : length usable ≡ 32
@@ -115,3 +119,8 @@ pub record Fillable (issues : ℕ) (rates lots usable order : List ℕ) (amount 
   pub long : length order ≡ 32
   pub inside : (k : ℕ) → k < issues → getD order k 0 < issues
   pub amount-most : amount ≤ 10_000_000_000_000
+
+-- and some amount is to be filled
+pub record Wanted (issues : ℕ) (rates lots usable order : List ℕ) (amount : ℕ) : Type 0 where
+  pub some : 0 < amount
+  pub fillable : Fillable issues rates lots usable order amount

@@ -13,10 +13,10 @@ ghost use Rattle.rule.specs.Baskets.{within};
 ghost use Rattle.rule.specs.Allocable.{unmarked};
 ghost use Rattle.rule.specs.Filling.{worth as worthOf, covered as coveredOf, fillPreferential, fillDrawn, fill as fillOf, forcedIssue, force as forceOf, carry as carryOf, filled};
 ghost use Rattle.filling.specs.Rated.{Rated, Rates, Termed, termsIn, Stocked};
-ghost use Rattle.filling.specs.Turns.{besides, Part, Addable, upTo, wholeUnits, nextOf, Raising, Rounding, Turnable, Ready, Turned, RowTurned, padded, Short, Emptied, Fillable};
-ghost use Rattle.filling.specs.Ordered.{Ordered, orderKey};
-ghost use Rattle.filling.specs.Match.{Matchable, Forcible, FilledAs};
-ghost use Rattle.filling.specs.Choice.{BestOf, FifthOf, ChoiceOf, forcedOf};
+ghost use Rattle.filling.specs.Turns.{besides, Part, Addable, upTo, wholeUnits, nextOf, Raising, Rounding, Turnable, Ready, Turned, RowTurned, padded, Short, Row, Emptied, Fillable, Wanted};
+ghost use Rattle.filling.specs.Ordered.{Orderable, Ordered, orderKey};
+ghost use Rattle.filling.specs.Match.{Coverable, Matchable, Forcible, FilledAs};
+ghost use Rattle.filling.specs.Choice.{Listed, BestOf, FifthOf, ChoiceOf, forcedOf};
 use rule::Lots;
 use rule::Yen;
 use value::Rate;
@@ -99,7 +99,7 @@ fn take_up_to(rate: Rate, had: Lots, bound: Lots, reached: Yen, amount: Yen) -> 
 }
 
 // "the most units of 100,000 lots that keep the match's value at or below the target". Nothing is divided by the rate where
-// not one more unit stays within it, or all whole units do.
+// a further unit is worth more than is left, or all whole units stay within it.
 fn take_units(rate: Rate, had: Lots, usable: Lots, reached: Yen, target: Yen) -> Turn
     requires { ⌜ Rounding (rate .0) (had .0) (usable .0) (reached .0) (target .0) ⌝ }
     ensures { λ r. ⌜ ((t : Terms) → Rated t (rate .0) → Turned t (besides t (had .0) (reached .0)) (wholeUnits t (usable .0) (had .0) (reached .0) (target .0)) r) ⌝ }
@@ -109,9 +109,8 @@ fn take_units(rate: Rate, had: Lots, usable: Lots, reached: Yen, target: Yen) ->
         return Turn { lots: had, reached };
     }
     let rest = others(rate, had, reached);
-    let one = with_lots(rate, rest, Lots(had.0 + UNIT));
-    let more = one.reached;
-    if target.0 < more.0 {
+    let unit = value::least(rate, Lots(UNIT));
+    if target.0 - reached.0 < unit.0 {
         return Turn { lots: had, reached };
     }
     let all = with_lots(rate, rest, Lots(whole));
@@ -185,7 +184,7 @@ fn fill_preferential(
     issues: usize,
     amount: Yen,
 )
-    requires { ⌜ (0 < amount .0) × Fillable issues (now rates) (now lots) (now usable) (now order) (amount .0) ⌝ }
+    requires { ⌜ Wanted issues (now rates) (now lots) (now usable) (now order) (amount .0) ⌝ }
     ensures { λ r. ⌜ ((ts : List Terms) → length ts ≡ issues → Rates ts (now (rates .entry)) → now (lots .exit) ≡ padded (fillPreferential ts (take issues (now (usable .entry))) (take issues (now (order .entry))) (amount .0) .lots)) ⌝ }
 {
     let mut reached = Yen(0);
@@ -207,7 +206,7 @@ fn fill_drawn(
     issues: usize,
     amount: Yen,
 )
-    requires { ⌜ (0 < amount .0) × Fillable issues (now rates) (now lots) (now usable) (now order) (amount .0) ⌝ }
+    requires { ⌜ Wanted issues (now rates) (now lots) (now usable) (now order) (amount .0) ⌝ }
     ensures { λ r. ⌜ ((ts : List Terms) → length ts ≡ issues → Rates ts (now (rates .entry)) → now (lots .exit) ≡ padded (fillDrawn ts (take issues (now (usable .entry))) (take issues (now (order .entry))) (amount .0) .lots)) ⌝ }
 {
     let mut reached = Yen(0);
@@ -224,7 +223,7 @@ fn fill_drawn(
 
 // "the shortage is rounded up to 10,000,000 yen, at most the amount .. the rest is the covered amount".
 pub fn covered(amount: Yen, usable: Yen) -> Yen
-    requires { ⌜ amount .0 ≤ 10_000_000_000_000 ⌝ }
+    requires { ⌜ Coverable (amount .0) ⌝ }
     ensures { λ r. ⌜ r .0 ≡ coveredOf (amount .0) (usable .0) ⌝ }
 {
     if amount.0 <= usable.0 {
@@ -329,7 +328,7 @@ fn chosen(choice: Choice) -> u64
 
 // The issue that is forced in run 3, in one way down the issues.
 pub fn forced_issue(terms: &[u64], basket: u64, issues: usize, notified: &[u64; 32]) -> u64
-    requires { ⌜ (issues ≤ 32) × (6 * issues ≤ length (now terms)) ⌝ }
+    requires { ⌜ Listed issues (now terms) ⌝ }
     ensures { λ r. ⌜ r ≡ forcedIssue basket (termsIn issues (now (terms .entry))) (take issues (now (notified .entry))) ⌝ }
 {
     let mut choice = Choice {
@@ -340,10 +339,11 @@ pub fn forced_issue(terms: &[u64], basket: u64, issues: usize, notified: &[u64; 
         ten: Fifth { met: 0, issue: 0 },
         any: Fifth { met: 0, issue: 0 },
     };
+    let kinds = baskets::kinds_of(basket);
     let mut i = issues;
     while i > 0 {
         i -= 1;
-        if baskets::is_eligible(terms, 6 * i, basket) {
+        if baskets::is_eligible_among(terms, 6 * i, &kinds) {
             choice = with_eligible(choice, i as u64, terms[6 * i], Lots(notified[i]));
         }
     }
@@ -359,7 +359,7 @@ pub struct Filling {
 
 // The match has nothing yet.
 fn clear(lots: &mut [u64; 32])
-    requires { ⌜ length (now lots) ≡ 32 ⌝ }
+    requires { ⌜ Row (now lots) ⌝ }
     ensures { λ r. ⌜ now (lots .exit) ≡ zeros 32 ⌝ }
 {
     for i in 0usize..32 {
@@ -525,7 +525,7 @@ pub fn issue_order(
     issues: usize,
     order: &mut [u64; 32],
 )
-    requires { ⌜ (issues ≤ 32) × (length (now order) ≡ 32) ⌝ }
+    requires { ⌜ Orderable issues (now order) ⌝ }
     ensures { λ r. ⌜ Ordered issues (λ i. orderKey preferential (getD (now (notified .entry)) i 0) (getD (now (before .entry)) i 0)) (now (order .exit)) ⌝ }
 {
     let mut keys = [0u64; 32];

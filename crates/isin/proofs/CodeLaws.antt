@@ -1,11 +1,12 @@
 -- Laws of the code rule. Assumes nothing.
 use mathlib.Core.Path.{_≡_, refl, sym, _∙_, ap, ap₂}
-use mathlib.Core.Bool.{Bool, true, false, _&&_, _||_, or-true, and-true, and-false}
+use mathlib.Core.Bool.{Bool, true, false, _&&_, _||_, or-true, or-false, and-true, and-false}
 use mathlib.Core.List.{List, [], _∷_, _++_, reverse, reverse-append}
 use mathlib.Core.Logic.{_⊎_, inl, inr, ⊎-elim}
 use Prim.Native.Nat.{ℕ, zero, suc, _≤_, _<_, _+_, _-_, _*_, _/_, _%_, max}
 use native.Mathlib.Numerals.{add-one}
 use native.Mathlib.Omega.{arith}
+use native.Mathlib.Decide.{decLe, ℕ-discrete}
 use lib.Dec.{leb, ltb, eqb}
 use lib.ListN.{length, getD, take, drop, drop-of-length-le}
 use lib.Seq.{take-suc, drop-cons}
@@ -15,8 +16,8 @@ use Rattle.lists.specs.Parts.{block, grid}
 use Rattle.rule.specs.Isin.{digit, capital, spread, doubled, checkDigit, isIsin, before, rising, isCode, codesRight}
 use Rattle.isin.specs.declared.Sums.{Sums}
 use Rattle.isin.specs.Code.{character, ofJapan, codeOf, allCodes, allRise}
-use Rattle.isin.specs.Summing.{Within, sumsOf, withDigit, withCharacter}
-use Rattle.lists.proofs.TestLaws.{and-left, and-right, or-cases, all-none, all-more, all-stop, all-at, all-of, all-ext}
+use Rattle.isin.specs.Summing.{Within, sumsOf, withDigit, withCapital, withCharacter}
+use Rattle.lists.proofs.TestLaws.{both-ways, and-left, and-right, or-left, or-right, all-none, all-more, all-stop, all-at, all-of, all-ext}
 use Rattle.lists.proofs.TableLaws.{length-table}
 use Rattle.lists.proofs.PartLaws.{row-at, part-is}
 
@@ -31,25 +32,27 @@ module _ (a b c : ℕ) where
   span : leb a c && leb c b ≡ true → (a ≤ c) × (c ≤ b)
   span h = (leb-true a c (and-left (leb a c) (leb c b) h), leb-true c b (and-right (leb a c) (leb c b) h))
 
--- a character up to 57 is a digit, one above is a capital
+-- digits and capitals as numbers
 module _ (c : ℕ) where
-  character-cases : character c ≡ true → ((48 ≤ c) × (c ≤ 57)) ⊎ ((65 ≤ c) × (c ≤ 90))
-  unfolding digit capital
-  character-cases h = ⊎-elim (λ e. inl (span 48 57 c e)) (λ e. inr (span 65 90 c e)) (or-cases (digit c) (capital c) h)
-
-  pub from-zero : character c ≡ true → c ≤ 57 → 48 ≤ c
-  from-zero h l = ⊎-elim (λ w. w .0) (λ w. omega arith) (character-cases h)
-
-  pub a-to-z : character c ≡ true → 57 < c → (65 ≤ c) × (c ≤ 90)
-  a-to-z h l = ⊎-elim (λ w. absurd (omega arith)) (λ w. w) (character-cases h)
-
-  is-digit : 48 ≤ c → c ≤ 57 → digit c ≡ true
+  pub is-figure : digit c ≡ true → (48 ≤ c) × (c ≤ 57)
   unfolding digit
-  is-digit h l = rw (le-leb 48 c h, le-leb c 57 l)
+  is-figure = span 48 57 c
 
-  no-digit : 57 < c → digit c ≡ false
+  pub no-figure : digit c ≡ false → 48 ≤ c → 57 < c
   unfolding digit
-  no-digit l = let h : 48 ≤ c = omega arith in rw (le-leb 48 c h, lt-leb c 57 l)
+  no-figure e h = go (decLe c 57)
+    where
+      go : Dec (c ≤ 57) → 57 < c
+      go (yes l) = both-ways (digit c) (rw (le-leb 48 c h, le-leb c 57 l)) e
+      go (no l) = omega arith
+
+  pub a-to-z : capital c ≡ true → (65 ≤ c) × (c ≤ 90)
+  unfolding capital
+  a-to-z = span 65 90 c
+
+  no-digit : capital c ≡ true → digit c ≡ false
+  unfolding digit
+  no-digit h = rw (lt-leb c 57 (omega (arith, a-to-z h))) (and-false (leb 48 c))
 
 -- a character more after those of a code
 spread-more : (cs ys : List ℕ) → spread (cs ++ ys) ≡ spread cs ++ spread ys
@@ -62,18 +65,39 @@ spread-more (c ∷ cs) ys = go (digit c) (c - 48) ((c - 55) / 10) ((c - 55) % 10
     go false x y z e = rw e
 
 -- what a character adds, by the code's own steps
-pub with-figure : (s r : Sums) (c : ℕ) → character c ≡ true → c ≤ 57 → r ≡ withDigit s (c - 48) → r ≡ withCharacter s c
-unfolding withCharacter
-with-figure s r c h l e = rw (is-digit c (from-zero c h l) l) e
+module _ (s : Sums) {r : Sums} (c : ℕ) where
+  with-figure : digit c ≡ true → r ≡ withDigit s (c - 48) → r ≡ withCharacter s c
+  unfolding withCharacter
+  with-figure h e = rw h e
 
-pub with-capital : (s q r : Sums) (c t : ℕ) → 57 < c → t ≡ (c - 55) / 10 → q ≡ withDigit s t → r ≡ withDigit q (c - 55 - 10 * t) → r ≡ withCharacter s c
-unfolding withCharacter
-with-capital s q r c t l e f g =
-    let u : c - 55 - 10 * t ≡ (c - 55) % 10 = omega arith in
-    rw (no-digit c l) (g ∙ ap₂ withDigit (f ∙ ap (withDigit s) e) u)
+  with-letter : capital c ≡ true → r ≡ withCapital s c → r ≡ withCharacter s c
+  unfolding withCharacter
+  with-letter h e = rw (no-digit c h) e
+
+-- both digits of a capital at once
+pub at-once : (s : Sums) (c : ℕ) → capital c ≡ true
+    → record { twice = s .twice + 2 * (c - 55) - (c - 55) / 10 - 9 * ((c - 55) / 5); once = s .once + (c - 55) - 8 * ((c - 55) / 10) } ≡ withCapital s c
+unfolding withCapital withDigit
+at-once s c h =
+    let l : (65 ≤ c) × (c ≤ 90) = a-to-z c h in
+    ap₂ (λ (x y : ℕ). record { twice = x; once = y }) (omega arith) (omega arith)
+
+-- the check digit and the sum make a multiple of ten
+module _ (c sum : ℕ) where
+  pub other-last : digit c ≡ false → false ≡ eqb c (48 + (10 - sum % 10) % 10)
+  other-last h = sym (ne-eqb c _ (λ e. omega (arith, no-figure c h (omega arith))))
+
+  pub makes-ten : digit c ≡ true → eqb ((sum + (c - 48)) % 10) 0 ≡ eqb c (48 + (10 - sum % 10) % 10)
+  makes-ten h = go (ℕ-discrete c (48 + (10 - sum % 10) % 10))
+    where
+      go : Dec (c ≡ 48 + (10 - sum % 10) % 10) → eqb ((sum + (c - 48)) % 10) 0 ≡ eqb c (48 + (10 - sum % 10) % 10)
+      go (yes e) = rw (eq-eqb c _ e, eq-eqb ((sum + (c - 48)) % 10) 0 (omega arith))
+      go (no n) =
+          let l : (48 ≤ c) × (c ≤ 57) = is-figure c h in
+          rw (ne-eqb c _ n, ne-eqb ((sum + (c - 48)) % 10) 0 (λ e. n (omega arith)))
 
 sums-character : (ds : List ℕ) (c : ℕ) → withCharacter (sumsOf ds) c ≡ sumsOf (reverse (spread (c ∷ [])) ++ ds)
-unfolding withCharacter withDigit sumsOf doubled spread
+unfolding withCharacter withCapital withDigit sumsOf doubled spread
 sums-character ds c = go (digit c) (c - 48) ((c - 55) / 10) ((c - 55) % 10)
   where
     go : (b : Bool) (x y z : ℕ) → pick b (withDigit (sumsOf ds) x) (withDigit (withDigit (sumsOf ds) y) z) ≡ sumsOf (reverse (pick b (x ∷ []) (y ∷ z ∷ [])) ++ ds)
@@ -112,21 +136,13 @@ module _ (xs ys : List ℕ) (k : ℕ) (w : before (drop k xs) (drop k ys) ≡ be
     unfolding before
     heads = rw add-one (rw (drop-cons xs k 0 hx, drop-cons ys k 0 hy) at w)
 
-    pub before-less : getD xs k 0 < getD ys k 0 → true ≡ before xs ys
-    before-less h = rw (lt-ltb _ _ h) at heads
+    pub before-here : (getD xs k 0 ≡ getD ys k 0 → ⊥) → ltb (getD xs k 0) (getD ys k 0) ≡ before xs ys
+    before-here n = rw (ne-eqb _ _ n, or-false) at heads
 
-    pub before-more : getD ys k 0 < getD xs k 0 → false ≡ before xs ys
-    before-more h =
-        let e : getD ys k 0 ≤ getD xs k 0 = omega arith in
-        let n : getD xs k 0 ≡ getD ys k 0 → ⊥ = λ q. omega arith in
-        rw (le-ltb _ _ e, ne-eqb _ _ n) at heads
+    pub before-same : getD xs k 0 ≡ getD ys k 0 → before (drop (k + 1) xs) (drop (k + 1) ys) ≡ before xs ys
+    before-same e = rw (le-ltb (getD xs k 0) (getD ys k 0) (omega arith), eq-eqb _ _ e) at heads
 
-    pub before-same : getD xs k 0 ≤ getD ys k 0 → getD ys k 0 ≤ getD xs k 0 → before (drop (k + 1) xs) (drop (k + 1) ys) ≡ before xs ys
-    before-same h l =
-        let e : getD xs k 0 ≡ getD ys k 0 = omega arith in
-        rw (le-ltb _ _ l, eq-eqb _ _ e) at heads
-
-pub ruleset order = (before-short, before-end, before-less, before-more, before-same)
+pub ruleset order = (before-short, before-end, before-here, before-same)
 
 -- "the first two bytes of a code are JP"
 module _ (c : List ℕ) where
@@ -198,7 +214,7 @@ read-none c e p q =
     }
 
 module _ {c : List ℕ} {i : ℕ} {s : Sums} (d : Read c i s) where
-  pub read-more : {r : Sums} → i < 11 → character (getD c i 0) ≡ true → r ≡ withCharacter s (getD c i 0) → Within r (max (s .twice) (s .once) + 18) → Read c (i + 1) r
+  read-more : {r : Sums} → i < 11 → character (getD c i 0) ≡ true → r ≡ withCharacter s (getD c i 0) → Within r (max (s .twice) (s .once) + 18) → Read c (i + 1) r
   read-more {r} l p e w =
       record {
         twelve = d .twelve;
@@ -210,11 +226,19 @@ module _ {c : List ℕ} {i : ℕ} {s : Sums} (d : Read c i s) where
         small = record { twice = omega arith; once = omega arith };
       }
 
-  pub read-stop : i < 11 → character (getD c i 0) ≡ false → false ≡ isIsin c
+  pub read-figure : {r : Sums} → i < 11 → digit (getD c i 0) ≡ true → r ≡ withDigit s (getD c i 0 - 48) → Within r (max (s .twice) (s .once) + 9) → Read c (i + 1) r
+  read-figure l p e w =
+      read-more l (or-left _ _ p) (with-figure s (getD c i 0) p e) (record { twice = omega (arith, w .twice); once = omega (arith, w .once) })
+
+  pub read-letter : {r : Sums} → i < 11 → capital (getD c i 0) ≡ true → r ≡ withCapital s (getD c i 0) → Within r (max (s .twice) (s .once) + 18) → Read c (i + 1) r
+  read-letter l p e w = read-more l (or-right (digit (getD c i 0)) _ p) (with-letter s (getD c i 0) p e) w
+
+  pub read-stop : i < 11 → digit (getD c i 0) ≡ false → capital (getD c i 0) ≡ false → false ≡ isIsin c
   unfolding isIsin
-  read-stop l f =
+  read-stop l g h =
       let p = d .first in
       let q = d .second in
+      let f : character (getD c i 0) ≡ false = rw g h in
       let n = shifted (λ k. character (getD c k 0)) 9 i (rw p (or-true (digit (getD c 0 0)))) (rw q (or-true (digit (getD c 1 0)))) l f in
       rw (eq-eqb (length c) 12 (d .twelve), p, q, n)
 

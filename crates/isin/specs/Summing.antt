@@ -18,6 +18,10 @@ sumsOf ds = record { twice = doubled true ds; once = doubled false ds }
 unfoldable pub withDigit : Sums → ℕ → Sums
 withDigit s d = record { twice = 2 * d / 10 + 2 * d % 10 + s .once; once = d + s .twice }
 
--- a character more: a digit, or the two digits of a capital
+-- a capital more: its two digits
+unfoldable pub withCapital : Sums → ℕ → Sums
+withCapital s c = withDigit (withDigit s ((c - 55) / 10)) ((c - 55) % 10)
+
+-- a character more
 unfoldable pub withCharacter : Sums → ℕ → Sums
-withCharacter s c = pick (digit c) (withDigit s (c - 48)) (withDigit (withDigit s ((c - 55) / 10)) ((c - 55) % 10))
+withCharacter s c = pick (digit c) (withDigit s (c - 48)) (withCapital s c)

@@ -1,12 +1,13 @@
 // Codes of issues: ISO 6166 and its check digit, the codes of Japan, and their order. A code is 12 cells.
 ghost use mathlib.Core.Path.{_≡_};
 ghost use mathlib.Core.Bool.{true};
-ghost use Prim.Native.Nat.{_+_, _*_, _/_, _%_, _≤_, max};
+ghost use Prim.Native.Nat.{_+_, _-_, _*_, _/_, _%_, _≤_, max};
 ghost use lib.ListN.{length};
+ghost use lib.Dec.{eqb};
 ghost use Rattle.lists.specs.Parts.{grid};
 ghost use Rattle.rule.specs.Isin.{digit, capital, isIsin, isCode, before, codesRight};
-ghost use Rattle.isin.specs.Code.{character, ofJapan, Holds, codeOf, allCodes, allRise};
-ghost use Rattle.isin.specs.Summing.{Within, withDigit, withCharacter};
+ghost use Rattle.isin.specs.Code.{ofJapan, Holds, codeOf, allCodes, allRise};
+ghost use Rattle.isin.specs.Summing.{Within, withDigit, withCapital};
 
 // Two sums of the digits met so far: with the last one doubled, and with the last one as it is. A digit that follows moves
 // each digit to the other weight, so both are kept, and a code is read once, from its first character on.
@@ -33,15 +34,6 @@ fn is_capital(c: u64) -> bool
     c <= 90
 }
 
-fn is_character(c: u64) -> bool
-    ensures { λ r. ⌜ r ≡ character c ⌝ }
-{
-    if is_digit(c) {
-        return true;
-    }
-    is_capital(c)
-}
-
 // The digits of a doubled digit, added.
 fn crossed(d: u64) -> u64
     requires { ⌜ d ≤ 9 ⌝ }
@@ -64,35 +56,33 @@ fn with_digit(s: Sums, d: u64) -> Sums
     }
 }
 
-// The tens of a capital's value.
-fn tens_of(value: u64) -> u64
-    requires { ⌜ (10 ≤ value) × (value ≤ 35) ⌝ }
-    ensures { λ r. ⌜ r ≡ value / 10 ⌝ }
+// A capital stands for two digits, A for 10 to Z for 35. Both are added at once, so the sums do not change places. With
+// ones = value - 10 * tens, the digits of the doubled ones make 2 * ones - 9 * (fives - 2 * tens).
+fn with_capital(s: Sums, c: u64) -> Sums
+    requires { ⌜ (capital c ≡ true) × Within s 900 ⌝ }
+    ensures { λ r. ⌜ (r ≡ withCapital s c) × Within r (max (s .twice) (s .once) + 18) ⌝ }
 {
-    if value < 20 {
-        return 1;
-    }
-    if value < 30 {
-        return 2;
-    }
-    3
-}
-
-// A digit stands for itself, a capital for two digits, A for 10 to Z for 35.
-fn with_character(s: Sums, c: u64) -> Sums
-    requires { ⌜ (character c ≡ true) × Within s 900 ⌝ }
-    ensures { λ r. ⌜ (r ≡ withCharacter s c) × Within r (max (s .twice) (s .once) + 18) ⌝ }
-{
-    if c <= 57 {
-        return with_digit(s, c - 48);
-    }
     let value = c - 55;
-    let tens = tens_of(value);
-    let ones = value - 10 * tens;
-    with_digit(with_digit(s, tens), ones)
+    let tens = value / 10;
+    let fives = value / 5;
+    Sums {
+        twice: s.twice + 2 * value - tens - 9 * fives,
+        once: s.once + value - 8 * tens,
+    }
 }
 
-// Is it a code of ISO 6166, of any country?
+// Is it the check digit of the sum? It is what the sum lacks to a multiple of ten.
+fn is_check_digit(c: u64, sum: u64) -> bool
+    requires { ⌜ sum ≤ 1000 ⌝ }
+    ensures { λ r. ⌜ r ≡ eqb c (48 + (10 - sum % 10) % 10) ⌝ }
+{
+    if !is_digit(c) {
+        return false;
+    }
+    (sum + (c - 48)) % 10 == 0
+}
+
+// Is it a code of ISO 6166, of any country? Two capitals, nine digits or capitals, and the check digit.
 pub fn is_isin(code: &[u64]) -> bool
     ensures { λ r. ⌜ r ≡ isIsin (now (code .entry)) ⌝ }
 {
@@ -105,18 +95,22 @@ pub fn is_isin(code: &[u64]) -> bool
     if !is_capital(code[1]) {
         return false;
     }
-    let mut sums = Sums { twice: 0, once: 0 };
-    let mut i = 0;
+    let first = with_capital(Sums { twice: 0, once: 0 }, code[0]);
+    let mut sums = with_capital(first, code[1]);
+    let mut i = 2;
     while i < 11 {
         let c = code[i];
-        if !is_character(c) {
-            return false;
+        if is_digit(c) {
+            sums = with_digit(sums, c - 48);
+        } else {
+            if !is_capital(c) {
+                return false;
+            }
+            sums = with_capital(sums, c);
         }
-        sums = with_character(sums, c);
         i += 1;
     }
-    let check = (10 - sums.twice % 10) % 10;
-    code[11] == 48 + check
+    is_check_digit(code[11], sums.twice)
 }
 
 // "the first two bytes of a code are JP"
@@ -152,13 +146,8 @@ pub fn stands_before(a: &[u64], b: &[u64]) -> bool
         if a.len() <= k {
             return true;
         }
-        let x = a[k];
-        let y = b[k];
-        if x < y {
-            return true;
-        }
-        if y < x {
-            return false;
+        if a[k] != b[k] {
+            return a[k] < b[k];
         }
         k += 1;
     }

@@ -16,9 +16,9 @@ use Rattle.lists.proofs.PartLaws.{table-agree}
 use Rattle.lists.proofs.FoldLaws.{every-map, every-all, every-append, fold-kept}
 use Rattle.lists.proofs.TableLaws.{length-table, getD-table, length-less}
 use Rattle.lists.proofs.OrderLaws.{every-sorted}
-use Rattle.rule.specs.Matching.{Match, Left, matched, meet, with, preferred, preferential, turn, deliverers, drawn, plan}
+use Rattle.rule.specs.Matching.{Match, Left, OneZero, matched, meet, with, preferred, preferential, turn, deliverers, drawn, plan}
 use Rattle.rule.specs.Layout.{plus, minus}
-use Rattle.rule.proofs.MatchingLaws.{OneZero, few-matches}
+use Rattle.rule.proofs.MatchingLaws.{few-matches}
 use Rattle.rule.proofs.DrawLaws.{EachOnce}
 use Rattle.matching.proofs.ListLaws.{block-block}
 use Rattle.matching.specs.Plans.{matchAt, begin, pairMarks, Planned, Basket}

@@ -9,9 +9,8 @@ use mathlib.Core.Bool.{Bool, true}
 use Rattle.lists.specs.Tables.{table, cell}
 use Rattle.lists.specs.Parts.{grid}
 use Rattle.lists.specs.Folds.{foldl, keep, Every}
-use Rattle.lists.specs.Order.{insert}
-use Rattle.rule.specs.Matching.{Match, Left, meet, with, turn, drawn, preferential}
-use Rattle.rule.proofs.MatchingLaws.{OneZero}
+use Rattle.lists.specs.Order.{insert, Falling}
+use Rattle.rule.specs.Matching.{Match, Left, OneZero, meet, with, turn, drawn, preferential}
 
 -- match k: deliverer, receiver, amount, and 1 if preferential
 unfoldable pub matchAt : List ℕ → ℕ → Match
@@ -55,6 +54,24 @@ pub record Joined (entry exit : List ℕ) (k : ℕ) : Type 0 where
   pub behind : (j : ℕ) → k < j → matchAt exit j ≡ matchAt entry j
 
 -- ---- what the functions ask: numbers of participants, and room for the matches that they leave
+
+-- match k, which is written
+pub record Writing (cells : List ℕ) (k : ℕ) : Type 0 where
+  pub room : Room cells (k + 1)
+
+-- an earlier match, which is written again
+pub record Copying (cells : List ℕ) (from to : ℕ) : Type 0 where
+  pub earlier : from < to
+  pub room : Room cells (to + 1)
+
+-- match k, which joins those before it: they stand by larger amount
+pub record Joining (cells : List ℕ) (k : ℕ) : Type 0 where
+  pub room : Room cells (k + 1)
+  pub falling : Falling (λ m. m .amount) (matchesIn cells k)
+
+-- n matches, which are sorted
+pub record Sorting (cells : List ℕ) (n : ℕ) : Type 0 where
+  pub room : Room cells n
 
 -- a meeting of deliverer d and receiver r
 pub record Meeting (mark : ℕ) (owed due cells : List ℕ) (n d r : ℕ) : Type 0 where

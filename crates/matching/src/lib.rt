@@ -7,13 +7,13 @@ ghost use lib.Dec.{eqb};
 ghost use mathlib.Core.Bool.{false};
 ghost use Rattle.lists.specs.Tables.{upTo};
 ghost use Rattle.lists.specs.Folds.{foldl};
-ghost use Rattle.lists.specs.Order.{sorted, Falling};
+ghost use Rattle.lists.specs.Order.{sorted};
 ghost use Rattle.rule.specs.Matching.{meet as meetOf, with, preferential as preferentialOf, turn as turnOf, drawn as drawnOf, plan as planOf};
-ghost use Rattle.matching.specs.Plans.{matchAt, matchesIn, leftIn, Room, Leaves, Planned, Wrote, Joined, Meeting, begin, Turning, Drawing, pairMarks, meetPairs, Pairing, Preferring, Basket};
+ghost use Rattle.matching.specs.Plans.{matchAt, matchesIn, leftIn, Leaves, Planned, Wrote, Joined, Writing, Copying, Joining, Sorting, Meeting, begin, Turning, Drawing, pairMarks, meetPairs, Pairing, Preferring, Basket};
 
 // Match k of the cells.
 fn write(cells: &mut [u64], k: usize, deliverer: u64, receiver: u64, amount: u64, mark: u64)
-    requires { ⌜ Room (now cells) (k + 1) ⌝ }
+    requires { ⌜ Writing (now cells) k ⌝ }
     ensures { λ _. ⌜ Wrote (now (cells .entry)) (now (cells .exit)) k (record { deliverer = deliverer; receiver = receiver; amount = amount; preferential = eqb mark 1 }) ⌝ }
 {
     cells[4 * k] = deliverer;
@@ -24,7 +24,7 @@ fn write(cells: &mut [u64], k: usize, deliverer: u64, receiver: u64, amount: u64
 
 // Match `from` once more, as match `to`.
 fn copy(cells: &mut [u64], from: usize, to: usize)
-    requires { ⌜ (from < to) × Room (now cells) (to + 1) ⌝ }
+    requires { ⌜ Copying (now cells) from to ⌝ }
     ensures { λ _. ⌜ Wrote (now (cells .entry)) (now (cells .exit)) to (matchAt (now (cells .entry)) from) ⌝ }
 {
     let deliverer = cells[4 * from];
@@ -36,7 +36,7 @@ fn copy(cells: &mut [u64], from: usize, to: usize)
 
 // Match k joins those before it: every match of a smaller amount moves one back.
 fn join(cells: &mut [u64], k: usize)
-    requires { ⌜ Room (now cells) (k + 1) × Falling (λ m. m .amount) (matchesIn (now cells) k) ⌝ }
+    requires { ⌜ Joining (now cells) k ⌝ }
     ensures { λ _. ⌜ Joined (now (cells .entry)) (now (cells .exit)) k ⌝ }
 {
     let deliverer = cells[4 * k];
@@ -56,7 +56,7 @@ fn join(cells: &mut [u64], k: usize)
 
 // "each deliverer's drawn ones go by larger matched amount, ties in drawn order"
 fn sort(cells: &mut [u64], n: usize)
-    requires { ⌜ Room (now cells) n ⌝ }
+    requires { ⌜ Sorting (now cells) n ⌝ }
     ensures { λ _. ⌜ matchesIn (now (cells .exit)) n ≡ sorted (λ m. m .amount) (matchesIn (now (cells .entry)) n) ⌝ }
 {
     for k in 0..n {

@@ -17,7 +17,7 @@ use Rattle.lists.specs.Order.{sorted, Falling}
 use Rattle.lists.proofs.FoldLaws.{total-append, total-less, total-at, length-total, sum-or, sum-zeros, every-append}
 use Rattle.lists.proofs.TableLaws.{getD-less-same, getD-less-le, length-less, less-pick}
 use Rattle.lists.proofs.OrderLaws.{total-sorted, every-sorted, falling-sorted, ranked-mem}
-use Rattle.rule.specs.Matching.{Match, Left, matched, meet, with, preferred, preferential, turn, deliverers, drawn, plan}
+use Rattle.rule.specs.Matching.{Match, Left, OneZero, matched, meet, with, preferred, preferential, turn, deliverers, drawn, plan}
 
 -- the state in which a basket's matching begins
 abbrev begin : List ℕ → List ℕ → Left
@@ -208,10 +208,6 @@ emptied a b = elim (decLe a b) [
 count-arith : (A A′ B B′ X oa oa′ ob ob′ l l′ n : ℕ) → oa′ + A ≡ oa + A′ → ob′ + B ≡ ob + B′ → A ≤ oa → B ≤ ob → l′ ≡ l + X
     → A′ + B′ + X ≤ A + B → X ≤ A → X ≤ B → A ≤ 1 → B ≤ 1 → l + pred (oa + ob) ≤ n → l′ + pred (oa′ + ob′) ≤ n
 count-arith A A′ B B′ X oa oa′ ob ob′ l l′ n h1 h2 h3 h4 h5 h6 h7 h8 h9 h10 h11 = omega arith
-
--- of each participant's two numbers one is 0
-abbrev pub OneZero : List ℕ → List ℕ → Type 0
-OneZero o d = (p : ℕ) → min (getD o p 0) (getD d p 0) ≡ 0
 
 few : (o d : List ℕ) → length d ≡ length o → OneZero o d → nonzero o + nonzero d ≤ length o
 few [] [] l z = omega arith

@@ -19,7 +19,7 @@ use Rattle.lists.proofs.FoldLaws.{total-append, total-cong, total-bound, length
 use Rattle.lists.proofs.TableLaws.{length-table}
 use Rattle.lists.proofs.OrderLaws.{ranked-mem, ranked-below}
 use Rattle.rule.specs.Value.{Terms, noTerms}
-use Rattle.rule.specs.Matching.{Match, plan}
+use Rattle.rule.specs.Matching.{OneZero, Match, plan}
 use Rattle.rule.specs.Filling.{worth, filled, forcedIssue, allLots, matchLots}
 use Rattle.rule.specs.Day.{Day}
 use Rattle.rule.specs.Run.{Allocation, usedTable, usable, issueOrder, allocate, basketPlan, basket, allocations, coveredFrom, coveredTo}
@@ -27,7 +27,7 @@ use Rattle.rule.specs.Sound.{termsFit, allTermsFit}
 use Rattle.rule.proofs.SoundLaws.{Sizes, sizes-of, SoundDay}
 use Rattle.rule.proofs.LayoutLaws.{Shaped, Signed}
 use Rattle.rule.proofs.DrawLaws.{EachOnce, draw-names}
-use Rattle.rule.proofs.MatchingLaws.{OneZero, Positive, plan-positive, outOf, inTo, out-of-owed, in-to-due, few-matches, all-owed, all-due}
+use Rattle.rule.proofs.MatchingLaws.{Positive, plan-positive, outOf, inTo, out-of-owed, in-to-due, few-matches, all-owed, all-due}
 use Rattle.rule.proofs.FillingLaws.{Priced}
 use Rattle.rule.proofs.FilledLaws.{Order, Fewest, FilledRight, filled-right, third-covers}
 use Rattle.rule.proofs.FilledBounds.{FilledSized, filled-sized, forced-of-day}

@@ -2,7 +2,7 @@
 -- fewest and most as one division each. Assumes nothing.
 use mathlib.Core.Path.{_≡_}
 use Prim.Native.Nat.{ℕ, suc, _+_, _-_, _*_, _/_, _≤_, _<_}
-use native.Mathlib.Nat.{mul-le-mul, div-add-mod', mod-lt, le-div-iff-mul-le, div-lt-iff-lt-mul}
+use native.Mathlib.Nat.{le-refl, mul-le-mul, div-add-mod', mod-lt, le-div-iff-mul-le, div-lt-iff-lt-mul}
 use native.Mathlib.Omega.{arith}
 use Rattle.rule.specs.Value.{Terms, value, fewest, most}
 use Rattle.rule.proofs.ValueLaws.{fewest-reaches, fewest-least, most-keeps, most-greatest}
@@ -34,6 +34,12 @@ rate-closed t ep ec ed = cc
 
 pub value-closed : (t : Terms) {w : ℕ} → w ≡ rate t → (n : ℕ) → n * w / 730 ≡ value t n
 value-closed t e n = rw e (value-rate t n)
+
+-- further lots are worth no less than so many times the rate
+pub least-below : (t : Terms) {w : ℕ} → w ≡ rate t → (n lots : ℕ) → value t n + lots / 730 * w ≤ value t (n + lots)
+least-below t {w} e n lots =
+    let h : 730 * (lots / 730) ≤ lots = omega arith in
+    omega (arith, value-closed t e n, value-closed t e (n + lots), mul-le-mul h (le-refl w))
 
 -- ---- fewest and most: of the quotient and the rule's number each is at most the other
 

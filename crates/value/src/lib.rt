@@ -1,6 +1,6 @@
 // The valuation: the one place where lots become yen and yen become lots.
 ghost use mathlib.Core.Path.{_≡_};
-ghost use Prim.Native.Nat.{_<_};
+ghost use Prim.Native.Nat.{ℕ, _+_, _≤_, _<_};
 ghost use Rattle.rule.specs.Value.{Terms, value as valueOf, fewest as fewestOf, most as mostOf};
 ghost use Rattle.value.specs.Rate.{rate as rateOf, Quoted, Valuable, Payable};
 use rule::Lots;
@@ -26,6 +26,15 @@ pub fn value(rate: Rate, lots: Lots) -> Yen
 {
     let parts = lots.0 * rate.0;
     Yen(parts / 730)
+}
+
+// No more than so many further lots are worth, whatever lots there are already: a bound that costs no division by a rate.
+pub fn least(rate: Rate, lots: Lots) -> Yen
+    requires { ⌜ Valuable (rate .0) (lots .0) ⌝ }
+    ensures { λ r. ⌜ ((t : Terms) → rate .0 ≡ rateOf t → (n : ℕ) → valueOf t n + r .0 ≤ valueOf t (n + lots .0)) ⌝ }
+{
+    let whole = lots.0 / 730;
+    Yen(whole * rate.0)
 }
 
 // "the fewest lots that reach the amount".

@@ -5,7 +5,7 @@ use Rattle.filling.proofs.carry.Statement.{statement}
 use Rattle.filling.proofs.carry.Tie as tie
 
 covered-requires : tie.Need-covered-requires
-covered-requires c κs = c .pre .amount-most
+covered-requires c κs = record { amount-most = c .pre .amount-most }
 
 fill-requires : tie.Need-fill-requires
 fill-requires c κs = carried _ (c .before .before .pre) (c .before .covered .ensures)

@@ -16,7 +16,7 @@ abbrev μ-loop : tie.MeasureT-loop
 μ-loop lots₀ i₀ lots i = 32 - i
 
 loop-holds : tie.Need-loop-holds Inv-loop μ-loop
-loop-holds c = (omega arith, c .pre, written-none (λ k. 0) (c .args .lots .now))
+loop-holds c = (omega arith, c .pre .places, written-none (λ k. 0) (c .args .lots .now))
 
 mul-lots : tie.Need-mul-lots Inv-loop μ-loop
 mul-lots c = omega arith

@@ -11,14 +11,14 @@ returns : tie.Need-returns
 returns c = fill-nothing (c .before .before .pre) (c .if1 .taken) _
 
 fill-preferential-requires : tie.Need-fill-preferential-requires
-fill-preferential-requires c κs = (omega (arith, c .before .before .if1 .left), c .before .before .before .before .pre)
+fill-preferential-requires c κs = record { some = omega (arith, c .before .before .if1 .left); fillable = c .before .before .before .before .pre }
 
 returns-2 : tie.Need-returns-2
 unfolding fill
 returns-2 c = λ ts sized rated. rw (c .before .before .if2 .taken) (c .fill-preferential .ensures ts sized rated)
 
 fill-drawn-requires : tie.Need-fill-drawn-requires
-fill-drawn-requires c κs = (omega (arith, c .before .before .if1 .left), c .before .before .before .before .pre)
+fill-drawn-requires c κs = record { some = omega (arith, c .before .before .if1 .left); fillable = c .before .before .before .before .pre }
 
 returns-3 : tie.Need-returns-3
 unfolding fill

@@ -22,22 +22,22 @@ abbrev start : tie.In-loop Inv-loop μ-loop Inv-passes μ-passes → tie.Start I
 start c = c .before .before .before .before
 
 passes-holds : tie.Need-passes-holds Inv-loop μ-loop Inv-passes μ-passes
-passes-holds c = begin (c .pre .1) (c .pre .0)
+passes-holds c = begin (c .pre .fillable) (c .pre .some)
 
 loop-holds : tie.Need-loop-holds Inv-loop μ-loop Inv-passes μ-passes
-loop-holds c = let s = c .before .before in enter (s .pre .1) (c .passes-test .taken) (c .before .passes .inv)
+loop-holds c = let s = c .before .before in enter (s .pre .fillable) (c .passes-test .taken) (c .before .passes .inv)
 
 mul-i : tie.Need-mul-i Inv-loop μ-loop Inv-passes μ-passes
 mul-i c = omega arith
 
 element-copy-out-i : tie.Need-element-copy-out-i Inv-loop μ-loop Inv-passes μ-passes
-element-copy-out-i c = omega (arith, start c .pre .1 .stock .issues-most)
+element-copy-out-i c = omega (arith, start c .pre .fillable .stock .issues-most)
 
 take-turn-requires : tie.Need-take-turn-requires Inv-loop μ-loop Inv-passes μ-passes
 take-turn-requires c κs =
     let i = c .before .before in
     let s = start i in
-    drawn-ready (s .pre .1) (i .before .loop .inv) (i .loop-test .taken)
+    drawn-ready (s .pre .fillable) (i .before .loop .inv) (i .loop-test .taken)
 
 add-k : tie.Need-add-k Inv-loop μ-loop Inv-passes μ-passes
 add-k c = omega arith
@@ -50,7 +50,7 @@ loop-again c =
     let t = c .before .before .before in
     let i = t .before .before .before in
     let s = start i in
-    on (s .pre .1) (i .before .loop .inv) (i .loop-test .taken) (t .take-turn .ensures) (c .if1 .left)
+    on (s .pre .fillable) (i .before .loop .inv) (i .loop-test .taken) (t .take-turn .ensures) (c .if1 .left)
 
 add-pass : tie.Need-add-pass Inv-loop μ-loop Inv-passes μ-passes
 add-pass c = omega arith
@@ -61,17 +61,17 @@ passes-less c = omega arith
 passes-again : tie.Need-passes-again Inv-loop μ-loop Inv-passes μ-passes
 passes-again c =
     let s = c .before .before .before .before in
-    over (s .pre .1) (c .loop-test .left) (c .before .loop .inv)
+    over (s .pre .fillable) (c .loop-test .left) (c .before .loop .inv)
 
 returns : tie.Need-returns Inv-loop μ-loop Inv-passes μ-passes
-returns c = let s = c .before .before in done (s .pre .1) (c .passes-test .left) (c .before .passes .inv)
+returns c = let s = c .before .before in done (s .pre .fillable) (c .passes-test .left) (c .before .passes .inv)
 
 returns-2 : tie.Need-returns-2 Inv-loop μ-loop Inv-passes μ-passes
 returns-2 c =
     let t = c .before .before .before in
     let i = t .before .before .before in
     let s = start i in
-    out (s .pre .1) (i .before .loop .inv) (i .loop-test .taken) (t .take-turn .ensures) (c .if1 .taken)
+    out (s .pre .fillable) (i .before .loop .inv) (i .loop-test .taken) (t .take-turn .ensures) (c .if1 .taken)
 
 pub fill-drawn-spec : {M : Type 1} → statement M
 fill-drawn-spec =

@@ -20,7 +20,7 @@ all : (c : tie.After-worth) → c .worth .result .0 ≡ worth (termsIn (start c 
 all c = c .worth .ensures _ (terms-length _ _) (start c .pre .rated)
 
 clear-requires : tie.Need-clear-requires
-clear-requires c κs = c .before .before .pre .places
+clear-requires c κs = record { places = c .before .before .pre .places }
 
 worth-requires : tie.Need-worth-requires
 worth-requires c κs = stocked (c .before .before .before .pre)

@@ -12,18 +12,18 @@ abbrev μ-loop : tie.MeasureT-loop
 μ-loop lots₀ usable rates order issues amount reached₀ k₀ lots reached k = issues - k
 
 loop-holds : tie.Need-loop-holds Inv-loop μ-loop
-loop-holds c = walk-begin (c .pre .1) (c .pre .0)
+loop-holds c = walk-begin (c .pre .fillable) (c .pre .some)
 
 mul-i : tie.Need-mul-i Inv-loop μ-loop
 mul-i c = omega arith
 
 element-copy-out-i : tie.Need-element-copy-out-i Inv-loop μ-loop
-element-copy-out-i c = omega (arith, c .before .before .pre .1 .stock .issues-most)
+element-copy-out-i c = omega (arith, c .before .before .pre .fillable .stock .issues-most)
 
 take-turn-requires : tie.Need-take-turn-requires Inv-loop μ-loop
 take-turn-requires c κs =
     let i = c .before .before in
-    walk-ready (i .before .before .pre .1) (i .before .loop .inv) (i .loop-test .taken)
+    walk-ready (i .before .before .pre .fillable) (i .before .loop .inv) (i .loop-test .taken)
 
 add-k : tie.Need-add-k Inv-loop μ-loop
 add-k c = omega arith
@@ -35,16 +35,16 @@ loop-again : tie.Need-loop-again Inv-loop μ-loop
 loop-again c =
     let t = c .before .before .before in
     let i = t .before .before .before in
-    walk-on (i .before .before .pre .1) (i .before .loop .inv) (i .loop-test .taken) (t .take-turn .ensures) (c .if1 .left)
+    walk-on (i .before .before .pre .fillable) (i .before .loop .inv) (i .loop-test .taken) (t .take-turn .ensures) (c .if1 .left)
 
 returns : tie.Need-returns Inv-loop μ-loop
-returns c = walk-done (c .before .before .pre .1) (c .loop-test .left) (c .before .loop .inv)
+returns c = walk-done (c .before .before .pre .fillable) (c .loop-test .left) (c .before .loop .inv)
 
 returns-2 : tie.Need-returns-2 Inv-loop μ-loop
 returns-2 c =
     let t = c .before .before .before in
     let i = t .before .before .before in
-    walk-out (i .before .before .pre .1) (i .before .loop .inv) (i .loop-test .taken) (t .take-turn .ensures) (c .if1 .taken)
+    walk-out (i .before .before .pre .fillable) (i .before .loop .inv) (i .loop-test .taken) (t .take-turn .ensures) (c .if1 .taken)
 
 pub fill-preferential-spec : {M : Type 1} → statement M
 fill-preferential-spec =

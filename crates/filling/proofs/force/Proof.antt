@@ -17,7 +17,7 @@ take-all-requires : tie.Need-take-all-requires
 take-all-requires c κs = c .before .before .pre .emptied
 
 forced-issue-requires : tie.Need-forced-issue-requires
-forced-issue-requires c κs = let p = c .before .before .before .pre in (p .emptied .issues-most, p .cells)
+forced-issue-requires c κs = let p = c .before .before .before .pre in record { issues-most = p .emptied .issues-most; cells = p .cells }
 
 mul-t15 : tie.Need-mul-t15
 mul-t15 c = omega (arith, below c)

@@ -25,7 +25,7 @@ abbrev μ-loop : tie.MeasureT-loop
 
 -- the keys ranked
 prefix : (c : tie.After-loop Inv-loop μ-loop) → length (take (c .before .before .args .issues) (c .before .loop .keys)) ≡ c .before .before .args .issues
-prefix c = length-row _ (c .before .loop .keys) (omega (arith, c .before .loop .inv .1, c .before .before .pre .0))
+prefix c = length-row _ (c .before .loop .keys) (omega (arith, c .before .loop .inv .1, c .before .before .pre .issues-most))
 
 loop-holds : tie.Need-loop-holds Inv-loop μ-loop
 loop-holds c = (omega arith, search needs, written-none (key (c .args .preferential) (c .args .notified .now) (c .args .before .now)) _)
@@ -34,13 +34,13 @@ mul-t10 : tie.Need-mul-t10 Inv-loop μ-loop
 mul-t10 c = omega arith
 
 element-copy-out-t13 : tie.Need-element-copy-out-t13 Inv-loop μ-loop
-element-copy-out-t13 c = omega (arith, c .before .before .pre .0)
+element-copy-out-t13 c = omega (arith, c .before .before .pre .issues-most)
 
 mul-t15 : tie.Need-mul-t15 Inv-loop μ-loop
 mul-t15 c = omega arith
 
 element-copy-out-t18 : tie.Need-element-copy-out-t18 Inv-loop μ-loop
-element-copy-out-t18 c = omega (arith, c .before .before .before .pre .0)
+element-copy-out-t18 c = omega (arith, c .before .before .before .pre .issues-most)
 
 ranked-by-requires : tie.Need-ranked-by-requires Inv-loop μ-loop
 ranked-by-requires c κs = search needs
@@ -65,24 +65,24 @@ loop-again c =
       omega arith,
       length-set {A = ℕ} (l .before .loop .keys) (l .before .loop .i) (c .ranked-by .result .0) ∙ h .1,
       written-more (key (s .args .preferential) (s .args .notified .now) (s .args .before .now)) _
-          (omega (arith, h .1, s .pre .0)) (c .ranked-by .ensures) (h .2),
+          (omega (arith, h .1, s .pre .issues-most)) (c .ranked-by .ensures) (h .2),
     )
 
 array-share-prefix-keys : tie.Need-array-share-prefix-keys Inv-loop μ-loop
-array-share-prefix-keys c = omega (arith, c .before .loop .inv .1, c .before .before .pre .0)
+array-share-prefix-keys c = omega (arith, c .before .loop .inv .1, c .before .before .pre .issues-most)
 
 slice-aggregate-rank : tie.Need-slice-aggregate-rank Inv-loop μ-loop
 slice-aggregate-rank c = sym (prefix (c .before))
 
 rank-requires : tie.Need-rank-requires Inv-loop μ-loop
-rank-requires c κs = let l = c .before .before in omega (arith, prefix l, l .before .before .pre)
+rank-requires c κs = let l = c .before .before in record { room = omega (arith, prefix l, l .before .before .pre) }
 
 returns : tie.Need-returns Inv-loop μ-loop
 returns c =
     let l = c .before .before .before in
     let s = l .before .before in
     let k : length (c .rank .last .1 .0) ≡ length (s .args .order .now) = c .rank .kept .1 .0 in
-    ordered _ (l .before .loop .keys) (l .before .loop .inv .2) (l .loop-test .left) (prefix l) (k ∙ s .pre .1) (c .rank .ensures)
+    ordered _ (l .before .loop .keys) (l .before .loop .inv .2) (l .loop-test .left) (prefix l) (k ∙ s .pre .places) (c .rank .ensures)
 
 pub issue-order-spec : {M : Type 1} → statement M
 issue-order-spec =

@@ -103,7 +103,7 @@ same-length c = c .before .cells2 .given ∙ c .before .before .before .before .
 returns : tie.Need-returns Inv-loop μ-loop
 unfolding matchAt
 returns c =
-    join-done _ _ (c .before .before .before .before .before .loop .inv) (c .before .before .before .before .before .before .before .before .before .before .before .pre .1)
+    join-done _ _ (c .before .before .before .before .before .loop .inv) (c .before .before .before .before .before .before .before .before .before .before .before .pre .falling)
     (⊎-elim (λ w. inl (omega arith)) (λ w. inr (w .0 .taken, w .2 .taken)) (c .before .before .before .before .loop-test .came)) (c .before .before .write .ensures)
 
 pub join-spec : {M : Type 1} → statement M

@@ -58,7 +58,7 @@ slice-write-due c = search needs
 write-requires : tie.Need-write-requires
 write-requires c κs =
     let x = c .before .before .before .before .before .before .before .before .before .before .args in
-    cells-room (x .mark) (x .owed .now) (x .due .now) (x .cells .now) (x .n) (x .d) (x .r) _ (c .before .before .before .before .smaller .ensures) (c .before .before .before .before .before .before .before .before .before .before .pre) (c .before .before .before .if1 .left)
+    record { room = cells-room (x .mark) (x .owed .now) (x .due .now) (x .cells .now) (x .n) (x .d) (x .r) _ (c .before .before .before .before .smaller .ensures) (c .before .before .before .before .before .before .before .before .before .before .pre) (c .before .before .before .if1 .left) }
 
 add-result : tie.Need-add-result
 add-result c =

@@ -16,7 +16,7 @@ loop-holds : tie.Need-loop-holds Inv-loop μ-loop
 loop-holds c = (omega arith, sort-begin _)
 
 join-requires : tie.Need-join-requires Inv-loop μ-loop
-join-requires c κs = (omega arith, sort-falls _ (c .before .before .loop .inv .1))
+join-requires c κs = record { room = omega arith; falling = sort-falls _ (c .before .before .loop .inv .1) }
 
 add-k : tie.Need-add-k Inv-loop μ-loop
 add-k c = omega arith

@@ -55,7 +55,7 @@ same-length : tie.Need-same-length
 same-length c = search needs
 
 returns : tie.Need-returns
-returns c = wrote _ _ _ _ _ _ (c .pre)
+returns c = wrote _ _ _ _ _ _ (c .pre .room)
 
 pub write-spec : {M : Type 1} → statement M
 write-spec =

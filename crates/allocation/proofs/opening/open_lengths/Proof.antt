@@ -53,7 +53,7 @@ returns-2 c =
     (flag-no _ _ (c .before .terms-fit .ensures) (c .if2 .taken))
 
 rows-at-most-requires : tie.Need-rows-at-most-requires
-rows-at-most-requires c κs = record { wide = omega arith; room = omega (arith, c .before .before .before .before .before .before .before .before .before .before .before .before .before .pre .receipts-size, mul-comm (c .before .before .before .before .before .before .before .before .before .before .before .before .before .args .participants) (c .before .before .before .before .before .before .before .before .before .before .before .before .before .args .issues)) }
+rows-at-most-requires c κs = record { rows = record { wide = omega arith; room = omega (arith, c .before .before .before .before .before .before .before .before .before .before .before .before .before .pre .receipts-size, mul-comm (c .before .before .before .before .before .before .before .before .before .before .before .before .before .args .participants) (c .before .before .before .before .before .before .before .before .before .before .before .before .before .args .issues)) }; small = omega arith }
 
 returns-3 : tie.Need-returns-3
 returns-3 c =

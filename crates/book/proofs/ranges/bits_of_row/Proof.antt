@@ -1,57 +1,60 @@
--- `book::ranges::bits_of_row` meets its contract. Bits gathered. Assumes nothing.
-use Prim.Native.Nat.{_-_, _+_}
+-- `book::ranges::bits_of_row` meets its contract. A row by fours. Assumes nothing.
 use native.Mathlib.Omega.{arith}
-use lib.Dec.{leb}
-use lib.ListN.{getD}
-use Rattle.book.proofs.ScanLaws.{Gathered, gathered-none, gathered-more, gathered-all, bits-below}
--- `book::ranges::bits_of_row` meets its contract. Bits gathered. Assumes nothing.
+use borrow.Author.Needs.{needs}
+use Rattle.book.proofs.RangeLaws.{ends-are, three-are}
 use Rattle.book.proofs.ranges.bits_of_row.Statement.{statement}
 use Rattle.book.proofs.ranges.bits_of_row.Tie as tie
 
-abbrev Inv-loop : tie.InvT-loop
-Inv-loop cells at m bits₀ i₀ bits i = Gathered (λ k. leb (getD cells (at + k) 0) 1) m i (leb bits 1)
+bits-of-cells-requires : tie.Need-bits-of-cells-requires
+bits-of-cells-requires c κs = search needs
 
-abbrev μ-loop : tie.MeasureT-loop
-μ-loop cells at m bits₀ i₀ bits i = m - i
+returns : tie.Need-returns
+returns c = search needs
 
-loop-holds : tie.Need-loop-holds Inv-loop μ-loop
-loop-holds c = gathered-none _ _
+bits-of-cells-requires-2 : tie.Need-bits-of-cells-requires-2
+bits-of-cells-requires-2 c κs = search needs
 
-add-bits : tie.Need-add-bits Inv-loop μ-loop
-add-bits c = omega arith
+returns-2 : tie.Need-returns-2
+returns-2 c = search needs
 
-mul-bits : tie.Need-mul-bits Inv-loop μ-loop
-mul-bits c = omega arith
+bits-of-four-requires : tie.Need-bits-of-four-requires
+bits-of-four-requires c κs = search needs
 
-shared-slice-read-bits : tie.Need-shared-slice-read-bits Inv-loop μ-loop
-shared-slice-read-bits c = omega arith
+add-bits-of-four : tie.Need-add-bits-of-four
+add-bits-of-four c = search needs
 
-add-i : tie.Need-add-i Inv-loop μ-loop
-add-i c = omega arith
+bits-of-four-requires-2 : tie.Need-bits-of-four-requires-2
+bits-of-four-requires-2 c κs = search needs
 
-loop-less : tie.Need-loop-less Inv-loop μ-loop
-loop-less c = omega arith
+returns-3 : tie.Need-returns-3
+returns-3 c =
+    let a = c .before .before .before .before .before .before .args in
+    ends-are (a .cells .now) (a .at) (a .m) (c .before .before .bits-of-four .result) (c .before .bits-of-four2 .result) (c .before .before .bits-of-four .ensures) (c .before .bits-of-four2 .ensures) (omega arith) (c .if3 .taken)
 
-loop-again : tie.Need-loop-again Inv-loop μ-loop
-loop-again c =
-    let w = c .before .before .loop in
-    let a = c .before .before .before .args in
-    gathered-more (w .inv) (omega arith) (bits-below (w .bits) (getD (a .cells .now) (a .at + w .i) 0) 1)
+add-bits-of-four-2 : tie.Need-add-bits-of-four-2
+add-bits-of-four-2 c = search needs
 
-returns : tie.Need-returns Inv-loop μ-loop
-returns c = gathered-all (c .before .loop .inv) (omega arith)
+bits-of-four-requires-3 : tie.Need-bits-of-four-requires-3
+bits-of-four-requires-3 c κs = search needs
+
+returns-4 : tie.Need-returns-4
+returns-4 c =
+    let a = c .before .before .before .before .before .before .before .args in
+    three-are (a .cells .now) (a .at) (a .m) (c .before .before .before .bits-of-four .result) (c .before .before .bits-of-four2 .result)
+    (c .before .before .before .bits-of-four .ensures) (c .before .before .bits-of-four2 .ensures) (c .bits-of-four3 .result) (c .bits-of-four3 .ensures) (omega arith) (omega arith)
 
 pub bits-of-row-spec : {M : Type 1} → statement M
 bits-of-row-spec =
     tie.close
     (tie.spec
-    Inv-loop
-    μ-loop
-    loop-holds
-    add-bits
-    mul-bits
-    shared-slice-read-bits
-    add-i
-    loop-less
-    loop-again
-    returns)
+    bits-of-cells-requires
+    returns
+    bits-of-cells-requires-2
+    returns-2
+    bits-of-four-requires
+    add-bits-of-four
+    bits-of-four-requires-2
+    returns-3
+    add-bits-of-four-2
+    bits-of-four-requires-3
+    returns-4)

@@ -19,13 +19,13 @@ loop-holds : tie.Need-loop-holds Inv-loop μ-loop
 loop-holds c = passed-none _ _ _ _
 
 row-at-most-requires : tie.Need-row-at-most-requires Inv-loop μ-loop
-row-at-most-requires c κs = rows-room (c .before .before .before .pre) (c .before .loop .inv .begin) (omega arith)
+row-at-most-requires c κs = record { room = rows-room (c .before .before .before .pre .rows) (c .before .loop .inv .begin) (omega arith); small = c .before .before .before .pre .small }
 
 returns : tie.Need-returns Inv-loop μ-loop
 returns c = sym (rows-are _ _ _ _ _ _ ∙ passed-stop (c .before .before .before .loop .inv) (omega arith) (flag-no _ _ (c .before .row-at-most .ensures) (c .if1 .taken)))
 
 add-o : tie.Need-add-o Inv-loop μ-loop
-add-o c = omega (arith, rows-next (c .before .before .before .before .before .pre) (c .before .before .before .loop .inv .begin) (omega arith))
+add-o c = omega (arith, rows-next (c .before .before .before .before .before .pre .rows) (c .before .before .before .loop .inv .begin) (omega arith))
 
 add-row : tie.Need-add-row Inv-loop μ-loop
 add-row c = omega arith

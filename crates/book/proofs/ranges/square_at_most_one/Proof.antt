@@ -5,22 +5,22 @@ use Rattle.book.proofs.RangeLaws.{square-joined}
 use Rattle.book.proofs.ranges.square_at_most_one.Statement.{statement}
 use Rattle.book.proofs.ranges.square_at_most_one.Tie as tie
 
-mul-bits-of-row : tie.Need-mul-bits-of-row
-mul-bits-of-row c = search needs
+mul-bits-of-cells : tie.Need-mul-bits-of-cells
+mul-bits-of-cells c = search needs
 
-bits-of-row-requires : tie.Need-bits-of-row-requires
-bits-of-row-requires c κs = search needs
+bits-of-cells-requires : tie.Need-bits-of-cells-requires
+bits-of-cells-requires c κs = search needs
 
 returns : tie.Need-returns
-returns c = let a = c .before .before .before .args in c .bits-of-row .ensures ∙ square-joined (a .cells .now) (a .at) (a .stride) (a .n) 1 (c .before .if1 .taken)
+returns c = let a = c .before .before .before .args in c .bits-of-cells .ensures ∙ square-joined (a .cells .now) (a .at) (a .stride) (a .n) 1 (c .before .if1 .taken)
 
-rows-at-most-requires : tie.Need-rows-at-most-requires
-rows-at-most-requires c κs = search needs
+bits-of-rows-requires : tie.Need-bits-of-rows-requires
+bits-of-rows-requires c κs = search needs
 
 returns-2 : tie.Need-returns-2
-returns-2 c = c .rows-at-most .ensures
+returns-2 c = search needs
 
 pub square-at-most-one-spec : {M : Type 1} → statement M
 square-at-most-one-spec =
     tie.close
-    (tie.spec mul-bits-of-row bits-of-row-requires returns rows-at-most-requires returns-2)
+    (tie.spec mul-bits-of-cells bits-of-cells-requires returns bits-of-rows-requires returns-2)

@@ -1,38 +1,36 @@
--- `book::sound::row_within` meets its contract. A scan. Assumes nothing.
-use mathlib.Core.Path.{_≡_}
-use mathlib.Core.Bool.{true}
-use Prim.Native.Nat.{_≤_, _<_, _-_}
+-- `book::sound::row_within` meets its contract. Bits gathered. Assumes nothing.
+use Prim.Native.Nat.{_-_, _+_}
+use mathlib.Core.Path.{_∙_, ap}
+use mathlib.Core.Bool.{Bool, _&&_}
 use native.Mathlib.Omega.{arith}
 use borrow.Author.Needs.{needs}
-use Rattle.lists.proofs.TestLaws.{scan}
-use Rattle.book.specs.Ranges.{rowPasses}
+use lib.Dec.{leb}
+use lib.ListN.{getD}
 use Rattle.book.specs.Sized.{isWithin}
+use Rattle.book.proofs.ScanLaws.{Gathered, gathered-none, gathered-more, gathered-all, bits-below}
 use Rattle.book.proofs.sound.row_within.Statement.{statement}
 use Rattle.book.proofs.sound.row_within.Tie as tie
 
 abbrev Inv-loop : tie.InvT-loop
-Inv-loop book at m limit i₀ i = (i ≤ m) × (rowPasses (isWithin limit) book at i ≡ true)
+Inv-loop book at m limit bits₀ i₀ bits i = Gathered (λ k. isWithin limit (getD book (at + k) 0)) m i (leb bits 9223372036854775807)
 
 abbrev μ-loop : tie.MeasureT-loop
-μ-loop book at m limit i₀ i = m - i
+μ-loop book at m limit bits₀ i₀ bits i = m - i
 
 loop-holds : tie.Need-loop-holds Inv-loop μ-loop
-loop-holds c = search (scan, needs)
+loop-holds c = gathered-none _ _
 
-add-is-within : tie.Need-add-is-within Inv-loop μ-loop
-add-is-within c = omega arith
+add-beyond : tie.Need-add-beyond Inv-loop μ-loop
+add-beyond c = omega arith
 
-mul-is-within : tie.Need-mul-is-within Inv-loop μ-loop
-mul-is-within c = omega arith
+mul-beyond : tie.Need-mul-beyond Inv-loop μ-loop
+mul-beyond c = omega arith
 
-shared-slice-read-is-within : tie.Need-shared-slice-read-is-within Inv-loop μ-loop
-shared-slice-read-is-within c = omega arith
+shared-slice-read-beyond : tie.Need-shared-slice-read-beyond Inv-loop μ-loop
+shared-slice-read-beyond c = omega arith
 
-is-within-requires : tie.Need-is-within-requires Inv-loop μ-loop
-is-within-requires c κs = search needs
-
-returns : tie.Need-returns Inv-loop μ-loop
-returns c = let l : c .before .before .before .before .loop .i < c .before .before .before .before .before .before .args .m = omega arith in search (scan, needs)
+beyond-requires : tie.Need-beyond-requires Inv-loop μ-loop
+beyond-requires c κs = search needs
 
 add-i : tie.Need-add-i Inv-loop μ-loop
 add-i c = omega arith
@@ -41,10 +39,13 @@ loop-less : tie.Need-loop-less Inv-loop μ-loop
 loop-less c = omega arith
 
 loop-again : tie.Need-loop-again Inv-loop μ-loop
-loop-again c = (omega arith, search (scan, needs))
+loop-again c =
+    let w = c .before .before .before .loop in
+    gathered-more (w .inv) (omega arith)
+    (bits-below (w .bits) (c .beyond .result) 63 ∙ ap (λ (r : Bool). leb (w .bits) 9223372036854775807 && r) (c .beyond .ensures))
 
-returns-2 : tie.Need-returns-2 Inv-loop μ-loop
-returns-2 c = let l : c .before .before .before .args .m ≤ c .before .loop .i = omega arith in search (scan, needs)
+returns : tie.Need-returns Inv-loop μ-loop
+returns c = gathered-all (c .before .loop .inv) (omega arith)
 
 pub row-within-spec : {M : Type 1} → statement M
 row-within-spec =
@@ -53,12 +54,11 @@ row-within-spec =
     Inv-loop
     μ-loop
     loop-holds
-    add-is-within
-    mul-is-within
-    shared-slice-read-is-within
-    is-within-requires
-    returns
+    add-beyond
+    mul-beyond
+    shared-slice-read-beyond
+    beyond-requires
     add-i
     loop-less
     loop-again
-    returns-2)
+    returns)

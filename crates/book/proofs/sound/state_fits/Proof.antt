@@ -1,6 +1,8 @@
 -- `book::sound::state_fits` meets its contract. Six tests in a row. Assumes nothing.
 use mathlib.Core.Path.{refl, _∙_}
 use borrow.Author.Needs.{needs}
+use native.Mathlib.Omega.{arith}
+use Rattle.rule.specs.Sound.{positionLimit, noticeLimit}
 use lib.ListN.{getD}
 use borrow.Author.Tests.{le-leb, lt-leb}
 use Rattle.lists.proofs.TestLaws.{flag-no, flag-yes}
@@ -35,7 +37,7 @@ while-runs-requires : tie.Need-while-runs-requires
 while-runs-requires c κs = search needs
 
 rows-at-most-requires : tie.Need-rows-at-most-requires
-rows-at-most-requires c κs = search needs
+rows-at-most-requires c κs = record { rows = search needs; small = omega (arith, while-small (getD (c .before .before .before .before .before .before .before .before .args .book .now) 2 0) noticeLimit (c .while-runs .ensures)) }
 
 returns-3 : tie.Need-returns-3
 unfolding stateWithin
@@ -45,7 +47,7 @@ while-runs-requires-2 : tie.Need-while-runs-requires-2
 while-runs-requires-2 c κs = search needs
 
 positions-fit-requires : tie.Need-positions-fit-requires
-positions-fit-requires c κs = record { sized = c .before .before .before .before .before .before .before .before .before .before .before .pre; small = while-small (getD (c .before .before .before .before .before .before .before .before .before .before .before .args .book .now) 2 0) (c .while-runs2 .ensures) }
+positions-fit-requires c κs = record { sized = c .before .before .before .before .before .before .before .before .before .before .before .pre; small = while-small (getD (c .before .before .before .before .before .before .before .before .before .before .before .args .book .now) 2 0) positionLimit (c .while-runs2 .ensures) }
 
 returns-4 : tie.Need-returns-4
 unfolding stateWithin

@@ -12,24 +12,27 @@ use Rattle.book.proofs.sound.tradable.Statement.{statement}
 use Rattle.book.proofs.sound.tradable.Tie as tie
 
 abbrev Inv-loop : tie.InvT-loop
-Inv-loop book basket issues o₀ i₀ o i = Passed (λ _ a. not (eligibleAt book basket a)) termsAt 6 issues o i
+Inv-loop book basket issues kinds o₀ i₀ o i = Passed (λ _ a. not (eligibleAt book basket a)) termsAt 6 issues o i
 
 abbrev μ-loop : tie.MeasureT-loop
-μ-loop book basket issues o₀ i₀ o i = issues - i
+μ-loop book basket issues kinds o₀ i₀ o i = issues - i
 
 shared-slice-read-issues : tie.Need-shared-slice-read-issues Inv-loop μ-loop
 shared-slice-read-issues c = omega arith
 
+kinds-of-requires : tie.Need-kinds-of-requires Inv-loop μ-loop
+kinds-of-requires c κs = search needs
+
 loop-holds : tie.Need-loop-holds Inv-loop μ-loop
 loop-holds c = passed-none _ _ _ _
 
-is-eligible-requires : tie.Need-is-eligible-requires Inv-loop μ-loop
-is-eligible-requires c κs = search needs
+is-eligible-among-requires : tie.Need-is-eligible-among-requires Inv-loop μ-loop
+is-eligible-among-requires c κs = search needs
 
 returns : tie.Need-returns Inv-loop μ-loop
 returns c =
-    let a = c .before .before .before .before .before .before .args in
-    tradable-some (a .book .now) (a .basket) (c .before .before .before .loop .inv .begin) (omega arith) (said-yes _ _ (eligible-is _ _ _ (c .before .is-eligible .ensures)) (c .if1 .taken))
+    let a = c .before .before .before .before .before .before .before .before .args in
+    tradable-some (a .book .now) (a .basket) (c .before .before .before .before .loop .inv .begin) (omega arith) (said-yes _ _ (eligible-is _ _ _ (λ t. c .before .is-eligible-among .ensures _ t (c .before .before .before .before .before .kinds-of .ensures))) (c .if1 .taken))
 
 add-o : tie.Need-add-o Inv-loop μ-loop
 add-o c = omega arith
@@ -41,10 +44,10 @@ loop-less : tie.Need-loop-less Inv-loop μ-loop
 loop-less c = omega arith
 
 loop-again : tie.Need-loop-again Inv-loop μ-loop
-loop-again c = passed-more (c .before .before .before .loop .inv) (omega arith) (is-not (said-no _ _ (eligible-is _ _ _ (c .before .is-eligible .ensures)) (c .if1 .left)))
+loop-again c = passed-more (c .before .before .before .before .loop .inv) (omega arith) (is-not (said-no _ _ (eligible-is _ _ _ (λ t. c .before .is-eligible-among .ensures _ t (c .before .before .before .before .before .kinds-of .ensures))) (c .if1 .left)))
 
 returns-2 : tie.Need-returns-2 Inv-loop μ-loop
-returns-2 c = tradable-none (c .before .before .before .before .args .book .now) _ (passed-all (c .before .loop .inv) (omega arith))
+returns-2 c = tradable-none (c .before .before .before .before .before .args .book .now) _ (passed-all (c .before .loop .inv) (omega arith))
 
 pub tradable-spec : {M : Type 1} → statement M
 tradable-spec =
@@ -53,8 +56,9 @@ tradable-spec =
     Inv-loop
     μ-loop
     shared-slice-read-issues
+    kinds-of-requires
     loop-holds
-    is-eligible-requires
+    is-eligible-among-requires
     returns
     add-o
     add-i

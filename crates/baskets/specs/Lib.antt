@@ -1,0 +1,2 @@
+-- What the contracts of baskets cite besides the rule.
+pub mod Kinds
