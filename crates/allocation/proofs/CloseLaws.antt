@@ -12,6 +12,7 @@ use lib.Seq.{take-all, take-suc, take-append-seam, drop-append-add, drop-drop, l
 use Rattle.lists.specs.Tables.{row}
 use Rattle.lists.specs.Folds.{joined}
 use Rattle.lists.specs.Parts.{block, grid, over}
+use Rattle.lists.proofs.AppendLaws.{joined-append, over-more}
 use Rattle.lists.proofs.TableLaws.{length-table, getD-table, getD-map}
 use Rattle.lists.proofs.PartLaws.{part-length, part-back, length-over, Shape, grid-shape}
 use Rattle.rule.specs.Calls.{Reply, accepted, refused, closeChecks, tomorrowReceipts, tomorrowPairs}
@@ -22,26 +23,6 @@ use Rattle.rule.proofs.BookLaws.{SoundBook}
 use Rattle.allocation.specs.Closed.{Gathers, ReceiptsFit, PairsFit, receiptsWritten, pairsWritten, closeSound}
 
 -- ---- rows written one after the other
-
-over-more : (b r s : List ℕ) (at : ℕ) → at + length r ≤ length b → over (over b at r) (at + length r) s ≡ over b at (r ++ s)
-over-more b r s at fit =
-    let x : List ℕ = take at b ++ r in
-    let d : List ℕ = drop (at + length r) b in
-    let long : length x ≡ at + length r = length-append (take at b) r ∙ ap (λ (k : ℕ). k + length r) (length-take-le at b (omega arith)) in
-    let whole : over b at r ≡ x ++ d = sym (append-assoc (take at b) r d) in
-    let left : take (at + length r) (x ++ d) ≡ x = ap (λ (k : ℕ). take k (x ++ d)) (sym long) ∙ take-append-seam x d in
-    let place : at + length r + length s ≡ at + length (r ++ s) = omega (arith, length-append r s) in
-    let right : drop (at + length r + length s) (x ++ d) ≡ drop (at + length (r ++ s)) b =
-    ap (λ (k : ℕ). drop (k + length s) (x ++ d)) (sym long) ∙ drop-append-add x d (length s) ∙ drop-drop (length s) (at + length r) b ∙ ap (λ (k : ℕ). drop k b) place in
-    let e : List ℕ = drop (at + length (r ++ s)) b in
-    ap (λ (l : List ℕ). over l (at + length r) s) whole
-    ∙ ap₂ (λ (u v : List ℕ). u ++ (s ++ v)) left right
-    ∙ append-assoc (take at b) r (s ++ e)
-    ∙ ap (λ (l : List ℕ). take at b ++ l) (sym (append-assoc r s e))
-
-joined-append : (xs ys : List (List ℕ)) → joined (xs ++ ys) ≡ joined xs ++ joined ys
-joined-append [] ys = refl
-joined-append (x ∷ xs) ys = ap (λ (l : List ℕ). x ++ l) (joined-append xs ys) ∙ sym (append-assoc x (joined xs) (joined ys))
 
 joined-more : (rows : List (List ℕ)) (p : ℕ) → p < length rows → joined (take (suc p) rows) ≡ joined (take p rows) ++ row rows p
 joined-more rows p l =

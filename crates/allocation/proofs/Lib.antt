@@ -4,3 +4,4 @@ pub mod TradeLaws
 pub mod NoticeLaws
 pub mod OpenLaws
 pub mod CloseLaws
+pub mod RunLaws

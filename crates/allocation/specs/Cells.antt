@@ -3,10 +3,6 @@ use Prim.Native.Nat.{ℕ, _+_, _*_, _≤_, _<_}
 use mathlib.Core.List.{List}
 use lib.ListN.{length}
 
--- as many cells from a place on as are to be written
-pub record Fits (cells source : List ℕ) (from : ℕ) : Type 0 where
-  pub room : from + length cells ≤ length source
-
 -- n rows of m cells, a stride apart in the one, one after the other in the other
 pub record Copies (cells : List ℕ) (at stride n m : ℕ) (source : List ℕ) (from : ℕ) : Type 0 where
   pub wide : m ≤ stride

@@ -2,5 +2,6 @@
 pub mod Cells
 pub mod Positions
 pub mod Checked
+pub mod RunChecked
 pub mod Opened
 pub mod Closed

@@ -2,14 +2,12 @@
 ghost use mathlib.Core.Path.{_≡_};
 ghost use mathlib.Core.List.{map};
 ghost use lib.ListN.{length};
-ghost use Rattle.lists.specs.Parts.{block, grid, over};
+ghost use Rattle.lists.specs.Parts.{block, grid, over, Fits};
 ghost use Rattle.lists.specs.Folds.{joined};
 ghost use Rattle.rule.specs.Layout.{plus, closeOf};
 ghost use Rattle.rule.specs.Answers.{told};
 ghost use Rattle.rule.proofs.BookLaws.{SoundBook};
-ghost use Rattle.allocation.specs.Cells.{Fits};
 ghost use Rattle.allocation.specs.Closed.{Gathers, ReceiptsFit, PairsFit, receiptsWritten, pairsWritten, closeSound};
-use crate::cells;
 use book::layout;
 use book::sound;
 use rule::Answer;
@@ -58,7 +56,7 @@ fn write_square(cells: &mut [u64], at: usize, n: usize, book: &[u64], from: usiz
     let mut o = from;
     while p < n {
         let e = to + n;
-        cells::copy(&mut cells[to..e], book, o);
+        lists::copy(&mut cells[to..e], book, o);
         to += n;
         o += layout::MOST_PARTICIPANTS;
         p += 1;

@@ -11,7 +11,6 @@ ghost use Rattle.rule.specs.Layout.{noticeOf};
 ghost use Rattle.rule.specs.Answers.{told};
 ghost use Rattle.rule.proofs.BookLaws.{SoundBook};
 ghost use Rattle.allocation.specs.Checked.{Named, Written, noticeSound, noticeWritten};
-use crate::cells;
 use book::layout;
 use book::limits;
 use book::ranges;
@@ -68,7 +67,7 @@ fn write_row(row: &mut [u64], named: &[u64], lots: &[u64])
     requires { ⌜ Named (length (now row)) (now named) (now lots) ⌝ }
     ensures { λ _. ⌜ now (row .exit) ≡ noticeRow (length (now (row .entry))) (now (named .entry)) (now (lots .entry)) ⌝ }
 {
-    cells::clear(&mut *row);
+    lists::clear(&mut *row);
     let mut j = 0;
     while j < named.len() {
         let issue = named[j] as usize;

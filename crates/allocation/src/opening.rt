@@ -63,7 +63,7 @@ fn write_open(
     requires { ⌜ Tables participants issues (now codes) (now terms) (now receipts) (now pairs) (now book) ⌝ }
     ensures { λ _. ⌜ now (book .exit) ≡ openWritten participants issues (now (codes .entry)) (now (terms .entry)) (now (receipts .entry)) (now (pairs .entry)) ⌝ }
 {
-    cells::clear(&mut *book);
+    lists::clear(&mut *book);
     book[layout::PARTICIPANTS] = participants as u64;
     book[layout::ISSUES] = issues as u64;
     cells::copy_rows(

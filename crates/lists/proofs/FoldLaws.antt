@@ -29,7 +29,7 @@ pub foldl-take : {A B : Type 0} (f : B → A → B) (xs : List A) (j : ℕ) (d :
 foldl-take f xs j d s h = rw (add-one j, take-suc xs j d h) (foldl-append f (take j xs) (getD xs j d ∷ []) s)
 
 -- one turn of a loop that counts up
-from-more : (k n : ℕ) → from k (suc n) ≡ from k n ++ ((k + n) ∷ [])
+pub from-more : (k n : ℕ) → from k (suc n) ≡ from k n ++ ((k + n) ∷ [])
 from-more k zero = ap (λ (i : ℕ). i ∷ []) (omega arith)
 from-more k (suc n) = ap (λ (l : List ℕ). k ∷ l) (from-more (suc k) n ∙ ap (λ (i : ℕ). from (suc k) n ++ (i ∷ [])) (omega arith))
 

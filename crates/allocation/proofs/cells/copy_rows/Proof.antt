@@ -12,7 +12,7 @@ use Rattle.allocation.proofs.cells.copy_rows.Statement.{statement}
 use Rattle.allocation.proofs.cells.copy_rows.Tie as tie
 use Rattle.allocation.proofs.cells.copy_rows.Reads as reads
 use Rattle.allocation.proofs.cells.copy_rows.Lts as lts
-use Rattle.allocation.proofs.cells.copy.Reads as copy-reads
+use Rattle.lists.proofs.copy.Reads as copy-reads
 
 abbrev Inv-loop : tie.InvT-loop
 Inv-loop cells₀ at stride n m source from p₀ to₀ o₀ cells p to o = Copied cells₀ at stride n m source from cells p to o

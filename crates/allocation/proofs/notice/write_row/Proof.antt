@@ -10,7 +10,7 @@ use Rattle.allocation.proofs.notice.write_row.Statement.{statement}
 use Rattle.allocation.proofs.notice.write_row.Tie as tie
 use Rattle.allocation.proofs.notice.write_row.Reads as reads
 use Rattle.allocation.proofs.notice.write_row.Lts as lts
-use Rattle.allocation.proofs.cells.clear.Reads as clear-reads
+use Rattle.lists.proofs.clear.Reads as clear-reads
 
 abbrev Inv-loop : tie.InvT-loop
 Inv-loop row₀ named lots j₀ row j = Entered row₀ named lots row j

@@ -9,7 +9,7 @@ use Rattle.allocation.proofs.opening.write_open.Statement.{statement}
 use Rattle.allocation.proofs.opening.write_open.Tie as tie
 use Rattle.allocation.proofs.opening.write_open.Reads as reads
 use Rattle.allocation.proofs.opening.write_open.Lts as lts
-use Rattle.allocation.proofs.cells.clear.Reads as clear-reads
+use Rattle.lists.proofs.clear.Reads as clear-reads
 use Rattle.allocation.proofs.cells.copy_rows.Reads as copy-rows-reads
 use Rattle.allocation.proofs.opening.copy_marks.Reads as copy-marks-reads
 

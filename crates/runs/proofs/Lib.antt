@@ -1,0 +1,17 @@
+-- Laws that the proofs cite.
+pub mod RowLaws
+pub mod StockLaws
+pub mod ListingLaws
+pub mod BookingLaws
+pub mod PlanLaws
+pub mod FillLaws
+pub mod DoneLaws
+pub mod SignLaws
+pub mod BookedLaws
+pub mod ReadLaws
+pub mod NextLaws
+pub mod ListedLaws
+pub mod RunningLaws
+pub mod AllocateLaws
+pub mod BasketLaws
+pub mod RanLaws
