@@ -32,20 +32,13 @@ pub fn kinds_of(basket: u64) -> [u8; 7]
 }
 
 // Whether the kind is one of them.
-fn is_among(kinds: &[u8; 7], kind: u64) -> bool
+pub fn is_among(kinds: &[u8; 7], kind: u64) -> bool
     ensures { λ r. ⌜ ((k : ℕ) → (t : Terms) → KindsOf k (now (kinds .entry)) → t .kind ≡ kind → r ≡ within k t) ⌝ }
 {
     match kind {
         0..=6 => kinds[kind as usize] == 1,
         _ => false,
     }
-}
-
-// Whether an issue of the kind is in the basket.
-pub fn is_within(basket: u64, kind: u64) -> bool
-    ensures { λ r. ⌜ ((t : Terms) → t .kind ≡ kind → r ≡ within basket t) ⌝ }
-{
-    is_among(&kinds_of(basket), kind)
 }
 
 // "An issue is unmarked if both are 0".
@@ -57,7 +50,7 @@ pub fn is_unmarked(redeemed: u64, interest: u64) -> bool
 
 // Whether the issue whose six terms stand there is of one of a basket's kinds, and unmarked. A loop over issues reads the
 // basket's kinds once.
-pub fn is_eligible_among(terms: &[u64], at: usize, kinds: &[u8; 7]) -> bool
+pub fn is_eligible(terms: &[u64], at: usize, kinds: &[u8; 7]) -> bool
     requires { ⌜ at + 6 ≤ length (now terms) ⌝ }
     ensures { λ r. ⌜ ((k : ℕ) → (t : Terms) → KindsOf k (now (kinds .entry)) → t .kind ≡ getD (now (terms .entry)) at 0 → t .redeemed ≡ getD (now (terms .entry)) (at + 4) 0 → t .interest ≡ getD (now (terms .entry)) (at + 5) 0 → r ≡ (within k t && unmarked t)) ⌝ }
 {
@@ -65,15 +58,6 @@ pub fn is_eligible_among(terms: &[u64], at: usize, kinds: &[u8; 7]) -> bool
         return false;
     }
     is_unmarked(terms[at + 4], terms[at + 5])
-}
-
-// Whether the issue whose six terms stand there is one of the basket, and unmarked.
-pub fn is_eligible(terms: &[u64], at: usize, basket: u64) -> bool
-    requires { ⌜ at + 6 ≤ length (now terms) ⌝ }
-    ensures { λ r. ⌜ ((t : Terms) → t .kind ≡ getD (now (terms .entry)) at 0 → t .redeemed ≡ getD (now (terms .entry)) (at + 4) 0 → t .interest ≡ getD (now (terms .entry)) (at + 5) 0 → r ≡ (within basket t && unmarked t)) ⌝ }
-{
-    let kinds = kinds_of(basket);
-    is_eligible_among(terms, at, &kinds)
 }
 
 // The lots where the issue may be used, else none.

@@ -61,7 +61,7 @@ pub fn tradable(book: &[u64], basket: usize) -> bool
     let mut o = layout::TERMS;
     let mut i = 0;
     while i < issues {
-        if baskets::is_eligible_among(book, o, &kinds) {
+        if baskets::is_eligible(book, o, &kinds) {
             return true;
         }
         o += layout::TERM;

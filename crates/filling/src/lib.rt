@@ -343,7 +343,7 @@ pub fn forced_issue(terms: &[u64], basket: u64, issues: usize, notified: &[u64; 
     let mut i = issues;
     while i > 0 {
         i -= 1;
-        if baskets::is_eligible_among(terms, 6 * i, &kinds) {
+        if baskets::is_eligible(terms, 6 * i, &kinds) {
             choice = with_eligible(choice, i as u64, terms[6 * i], Lots(notified[i]));
         }
     }

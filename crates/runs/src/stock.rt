@@ -46,8 +46,9 @@ pub fn mark_issues(book: &[u64], basket: u64, row: &mut [u64])
     requires { ⌜ Issues (now book) (now row) ⌝ }
     ensures { λ _. ⌜ Becomes (λ i c. c ≡ insideOf (now (book .entry)) basket i) (now (row .entry)) (now (row .exit)) ⌝ }
 {
+    let kinds = baskets::kinds_of(basket);
     for i in 0..row.len() {
-        let within = baskets::is_within(basket, book[layout::TERMS + layout::TERM * i]);
+        let within = baskets::is_among(&kinds, book[layout::TERMS + layout::TERM * i]);
         let mark = lists::one_if(within);
         row[i] = mark;
     }

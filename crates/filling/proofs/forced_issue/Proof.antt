@@ -20,7 +20,7 @@ abbrev μ-loop : tie.MeasureT-loop
 μ-loop terms basket issues notified kinds choice₀ i₀ choice i = i
 
 -- the function's entry
-abbrev start : tie.After-is-eligible-among Inv-loop μ-loop → tie.Start Inv-loop μ-loop
+abbrev start : tie.After-is-eligible Inv-loop μ-loop → tie.Start Inv-loop μ-loop
 start c = c .before .before .before .before .before .before
 
 -- the issue looked at is one of the day's
@@ -28,14 +28,14 @@ inside : (c : tie.In-loop Inv-loop μ-loop) → c .before .loop .i - 1 < c .befo
 inside c = omega (arith, c .before .loop .inv .at)
 
 -- what the call said of it
-eligible : (c : tie.After-is-eligible-among Inv-loop μ-loop)
-    → c .is-eligible-among .result
+eligible : (c : tie.After-is-eligible Inv-loop μ-loop)
+    → c .is-eligible .result
     ≡ isEligible (start c .args .basket) (termsIn (start c .args .issues) (start c .args .terms .now)) (c .before .before .before .loop .i - 1)
 eligible c =
     let l = c .before .before in
     let a = start c .args in
     let i = inside l in
-    c .is-eligible-among .ensures (a .basket) (getD (termsIn (a .issues) (a .terms .now)) (l .before .loop .i - 1) noTerms) (l .before .before .kinds-of .ensures)
+    c .is-eligible .ensures (a .basket) (getD (termsIn (a .issues) (a .terms .now)) (l .before .loop .i - 1) noTerms) (l .before .before .kinds-of .ensures)
     (kind-at _ _ _ i) (redeemed-at _ _ _ i) (interest-at _ _ _ i)
 
 kinds-of-requires : tie.Need-kinds-of-requires Inv-loop μ-loop
@@ -47,11 +47,11 @@ loop-holds c = down-none _ _ _ _ refl refl refl refl refl
 sub-i : tie.Need-sub-i Inv-loop μ-loop
 sub-i c = omega arith
 
-mul-is-eligible-among : tie.Need-mul-is-eligible-among Inv-loop μ-loop
-mul-is-eligible-among c = omega (arith, c .before .before .before .before .pre .issues-most, c .before .loop .inv .at)
+mul-is-eligible : tie.Need-mul-is-eligible Inv-loop μ-loop
+mul-is-eligible c = omega (arith, c .before .before .before .before .pre .issues-most, c .before .loop .inv .at)
 
-is-eligible-among-requires : tie.Need-is-eligible-among-requires Inv-loop μ-loop
-is-eligible-among-requires c κs = omega (arith, c .before .before .before .before .before .pre .cells, c .before .before .loop .inv .at)
+is-eligible-requires : tie.Need-is-eligible-requires Inv-loop μ-loop
+is-eligible-requires c κs = omega (arith, c .before .before .before .before .before .pre .cells, c .before .before .loop .inv .at)
 
 mul-with-eligible : tie.Need-mul-with-eligible Inv-loop μ-loop
 mul-with-eligible c = omega arith
@@ -110,8 +110,8 @@ forced-issue-spec =
     kinds-of-requires
     loop-holds
     sub-i
-    mul-is-eligible-among
-    is-eligible-among-requires
+    mul-is-eligible
+    is-eligible-requires
     mul-with-eligible
     mul-with-eligible-2
     shared-slice-read-with-eligible

@@ -26,13 +26,13 @@ kinds-of-requires c κs = search needs
 loop-holds : tie.Need-loop-holds Inv-loop μ-loop
 loop-holds c = passed-none _ _ _ _
 
-is-eligible-among-requires : tie.Need-is-eligible-among-requires Inv-loop μ-loop
-is-eligible-among-requires c κs = search needs
+is-eligible-requires : tie.Need-is-eligible-requires Inv-loop μ-loop
+is-eligible-requires c κs = search needs
 
 returns : tie.Need-returns Inv-loop μ-loop
 returns c =
     let a = c .before .before .before .before .before .before .before .before .args in
-    tradable-some (a .book .now) (a .basket) (c .before .before .before .before .loop .inv .begin) (omega arith) (said-yes _ _ (eligible-is _ _ _ (λ t. c .before .is-eligible-among .ensures _ t (c .before .before .before .before .before .kinds-of .ensures))) (c .if1 .taken))
+    tradable-some (a .book .now) (a .basket) (c .before .before .before .before .loop .inv .begin) (omega arith) (said-yes _ _ (eligible-is _ _ _ (λ t. c .before .is-eligible .ensures _ t (c .before .before .before .before .before .kinds-of .ensures))) (c .if1 .taken))
 
 add-o : tie.Need-add-o Inv-loop μ-loop
 add-o c = omega arith
@@ -44,7 +44,7 @@ loop-less : tie.Need-loop-less Inv-loop μ-loop
 loop-less c = omega arith
 
 loop-again : tie.Need-loop-again Inv-loop μ-loop
-loop-again c = passed-more (c .before .before .before .before .loop .inv) (omega arith) (is-not (said-no _ _ (eligible-is _ _ _ (λ t. c .before .is-eligible-among .ensures _ t (c .before .before .before .before .before .kinds-of .ensures))) (c .if1 .left)))
+loop-again c = passed-more (c .before .before .before .before .loop .inv) (omega arith) (is-not (said-no _ _ (eligible-is _ _ _ (λ t. c .before .is-eligible .ensures _ t (c .before .before .before .before .before .kinds-of .ensures))) (c .if1 .left)))
 
 returns-2 : tie.Need-returns-2 Inv-loop μ-loop
 returns-2 c = tradable-none (c .before .before .before .before .before .args .book .now) _ (passed-all (c .before .loop .inv) (omega arith))
@@ -58,7 +58,7 @@ tradable-spec =
     shared-slice-read-issues
     kinds-of-requires
     loop-holds
-    is-eligible-among-requires
+    is-eligible-requires
     returns
     add-o
     add-i
