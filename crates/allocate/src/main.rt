@@ -1,5 +1,5 @@
 // Runs days: with no argument a sample of our own, else each file that an argument names, `-` for standard input. What such a
-// file has and what is written for it is in shared/DAYFILE.md, which the comments quote.
+// file has and what is written for it is in docs/DAYFILE.md, which the comments quote.
 mod answers;
 mod calls;
 mod codes;

@@ -268,11 +268,11 @@ allocableThen g before d i = allocable (runsIn before) (getD (g .terms) i noTerm
 
 -- what event e keeps to, after the events before it
 pub record EventHolds (g : Given) (before : List Event) (e : Event) : Type 0 where
-  -- "a deliverer's lots of an issue, over all baskets and less those forced, are at most its allocable quantity in that run"
+  -- a deliverer's lots of an issue, over all baskets and less those forced, are at most its allocable quantity in that run
   pub allocable : (d i : ℕ) → lotsBy d i (e .matches) (e .lines) ≤ allocableThen g before d i + forcedBy d i (e .matches)
   -- the forced lots are among them
   pub forced : (d i : ℕ) → forcedBy d i (e .matches) ≤ lotsBy d i (e .matches) (e .lines)
-  -- "Nothing is forced before the third accepted run"
+  -- nothing is forced before the third accepted run
   pub unforced : runsIn before < 2 → (d i : ℕ) → forcedBy d i (e .matches) ≡ 0
 
 -- of a day that was opened with g. "Of all this only the position standing is read from the book"

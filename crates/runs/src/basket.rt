@@ -11,7 +11,8 @@ use crate::matched::Counts;
 use crate::stock;
 use book::layout;
 
-// The rows of match j's deliverer: "sorted once for each deliverer and basket", so those of the match before it may do.
+// The rows of match j's deliverer. Issues are sorted once for each deliverer and sort of match: those of the match before it
+// may do.
 fn rows_for(
     book: &[u64],
     before: &[u64],
