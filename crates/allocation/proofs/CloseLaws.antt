@@ -6,9 +6,9 @@ use native.Mathlib.Numerals.{add-one}
 use native.Mathlib.Omega.{arith}
 use borrow.Author.Needs.{needs}
 use borrow.Rule.Slice.PartMut.{putMid}
-use mathlib.Core.List.{List, [], _∷_, _++_, map, append-assoc, append-nil}
+use mathlib.Core.List.{List, [], _∷_, _++_, map, append-nil}
 use lib.ListN.{length, getD, take, drop, length-append, length-map, take-append-drop}
-use lib.Seq.{take-all, take-suc, take-append-seam, drop-append-add, drop-drop, length-take-le}
+use lib.Seq.{take-all, take-suc}
 use Rattle.lists.specs.Tables.{row}
 use Rattle.lists.specs.Folds.{joined}
 use Rattle.lists.specs.Parts.{block, grid, over}

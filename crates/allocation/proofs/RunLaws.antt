@@ -1,12 +1,12 @@
 -- Laws that the proofs of a run cite. Assumes nothing.
 use mathlib.Core.Path.{_≡_, refl, sym, ap, ap₂, _∙_, subst}
-use Prim.Native.Nat.{ℕ, _+_, _-_, _*_, _≤_, _<_}
+use Prim.Native.Nat.{ℕ, _+_, _-_, _≤_, _<_}
 use native.Mathlib.Numerals.{add-one}
 use native.Mathlib.Omega.{arith}
 use borrow.Author.Needs.{needs}
 use mathlib.Core.Logic.{_≢_}
 use mathlib.Core.Bool.{Bool, true, false, _&&_}
-use mathlib.Core.List.{List, [], _∷_, _++_}
+use mathlib.Core.List.{List, [], _∷_}
 use lib.ListN.{length, getD, take}
 use lib.Seq.{take-all, take-suc}
 use lib.Dec.{eqb}
@@ -16,7 +16,7 @@ use Rattle.lists.specs.Folds.{joined, total}
 use Rattle.lists.specs.Parts.{over}
 use Rattle.lists.proofs.FoldLaws.{total-append}
 use Rattle.lists.proofs.TestLaws.{pick-elim, go, stop, and-no, all-stop}
-use Rattle.rule.specs.Run.{Allocation, allocations, ran, matchList, lineList}
+use Rattle.rule.specs.Run.{allocations, ran, matchList, lineList}
 use Rattle.rule.specs.Calls.{Reply, counts, refused, eachOnce, runChecks, runReply}
 use Rattle.rule.specs.Layout.{view, stored}
 use Rattle.rule.proofs.AnswerLaws.{answers}

@@ -1,25 +1,23 @@
 -- Laws of the loop over a basket's matches. Assumes nothing.
-use mathlib.Core.Path.{_≡_, refl, sym, ap, ap₂, _∙_, subst}
-use mathlib.Core.Bool.{Bool, true, false}
-use mathlib.Core.List.{List, [], _∷_, _++_}
+use mathlib.Core.Path.{_≡_, sym, ap, _∙_, subst}
+use mathlib.Core.Bool.{Bool}
+use mathlib.Core.List.{List}
 use Prim.Native.Nat.{ℕ, _+_, _-_, _*_, _≤_, _<_}
 use native.Mathlib.Omega.{arith}
 use lib.ListN.{length, getD, take}
 use lib.Dec.{eqb}
-use Rattle.lists.specs.Folds.{joined}
 use Rattle.lists.specs.Order.{ranked}
 use Rattle.lists.specs.Parts.{over}
 use Rattle.lists.proofs.TableLaws.{length-table}
-use Rattle.lists.proofs.PartLaws.{length-over}
-use Rattle.rule.specs.Run.{Allocation, basketPlan, matchList, lineList}
-use Rattle.rule.specs.Layout.{bookLength, noticesAt, view}
+use Rattle.rule.specs.Run.{Allocation, basketPlan}
+use Rattle.rule.specs.Layout.{noticesAt, view}
 use Rattle.filling.specs.Ordered.{orderKey}
 use Rattle.filling.specs.Match.{FilledAs}
 use Rattle.filling.specs.declared.Filling.{Filling}
 use Rattle.filling.proofs.OrderLaws.{ranked-alike}
 use Rattle.matching.specs.Plans.{matchAt}
-use Rattle.runs.specs.Filled.{issuesIn, Same, Loadable, Loaded, RowsAsked, Fillable, filledIn, Writable, Wrote}
-use Rattle.runs.specs.Running.{doneTo, doneAt, BookedTo, Start, Running, Tables, Begun, Planning, AllocateAsks}
+use Rattle.runs.specs.Filled.{issuesIn, Same, Loaded, RowsAsked, Fillable, filledIn, Writable, Wrote}
+use Rattle.runs.specs.Running.{doneTo, doneAt, BookedTo, Running, AllocateAsks}
 use Rattle.runs.proofs.DoneLaws.{done-begin, done-end}
 use Rattle.runs.proofs.ReadLaws.{issues-kept, notices-kept}
 use Rattle.runs.proofs.NextLaws.{deliverer-of-day}

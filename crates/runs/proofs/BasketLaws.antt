@@ -1,7 +1,7 @@
 -- Laws of a basket's step. Assumes nothing.
-use mathlib.Core.Path.{_≡_, refl, sym, ap, ap₂, _∙_, subst}
-use mathlib.Core.List.{List, [], _∷_, _++_, map}
-use Prim.Native.Nat.{ℕ, _+_, _-_, _*_, _≤_, _<_, pred}
+use mathlib.Core.Path.{_≡_, sym, ap, _∙_, subst}
+use mathlib.Core.List.{List, _++_, map}
+use Prim.Native.Nat.{ℕ, _+_, _-_, _*_, _≤_, _<_}
 use native.Mathlib.Omega.{arith}
 use lib.ListN.{length, getD, take, drop, length-append, length-drop, length-map, List·getD-append}
 use lib.Seq.{length-take-le}
@@ -12,9 +12,9 @@ use Rattle.lists.proofs.TableLaws.{length-table}
 use Rattle.lists.proofs.PartLaws.{block-get, length-block}
 use Rattle.rule.specs.Value.{Terms}
 use Rattle.rule.specs.Baskets.{within}
-use Rattle.rule.specs.Matching.{Match, plan}
-use Rattle.rule.specs.Run.{Allocation, used, basketPlan}
-use Rattle.rule.specs.Layout.{bookLength, pairsAt, positionsAt, plus, minus, view}
+use Rattle.rule.specs.Matching.{plan}
+use Rattle.rule.specs.Run.{Allocation, basketPlan}
+use Rattle.rule.specs.Layout.{pairsAt, positionsAt, plus, minus, view}
 use Rattle.rule.proofs.BookLaws.{SoundBook}
 use Rattle.rule.proofs.DrawLaws.{EachOnce}
 use Rattle.rule.proofs.MatchingLaws.{few-matches}
@@ -23,7 +23,7 @@ use Rattle.matching.proofs.CallerLaws.{signed-one-zero}
 use Rattle.runs.specs.Rows.{Becomes}
 use Rattle.runs.specs.Stock.{insideOf, Issues}
 use Rattle.runs.specs.Filled.{participantsIn, issuesIn, positionsIn, planIn, Plannable}
-use Rattle.runs.specs.Running.{doneTo, BookedTo, Running, Begun, BasketAsks, Planning, AllocateAsks}
+use Rattle.runs.specs.Running.{doneTo, BookedTo, Running, BasketAsks, AllocateAsks}
 use Rattle.runs.proofs.ReadLaws.{sized-kept, participants-kept, issues-kept, terms-in-kept, plan-kept, nothing-covered}
 
 module _ (k : ℕ) (b draw rates allocable used′ matches lines : List ℕ) (m l : ℕ) (s : BasketAsks k b draw rates allocable used′ matches lines m l) where

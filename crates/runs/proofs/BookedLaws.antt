@@ -1,9 +1,9 @@
 -- Laws of the book in a run: how each match changes it, and what is left alone. Assumes nothing.
 use mathlib.Core.Path.{_≡_, refl, sym, ap, ap₂, _∙_, subst}
-use mathlib.Core.Logic.{_≢_, _⊎_, inl, inr}
+use mathlib.Core.Logic.{_≢_}
 use mathlib.Core.Bool.{Bool, true, false, _&&_}
 use mathlib.Core.List.{List, [], _∷_, _++_}
-use Prim.Native.Nat.{ℕ, _+_, _-_, _*_, _≤_, _<_, _%_, min}
+use Prim.Native.Nat.{ℕ, _+_, _-_, _≤_, _<_, _%_, min}
 use native.Mathlib.Nat.{sub-zero, add-zero, mul-le-mul-left}
 use native.Mathlib.Decide.{ℕ-discrete}
 use native.Mathlib.Omega.{arith}
@@ -11,7 +11,7 @@ use lib.ListN.{length, getD}
 use lib.Dec.{ltb, eqb}
 use borrow.Author.Tests.{eq-eqb, ne-eqb}
 use Rattle.lists.specs.Tests.{pick}
-use Rattle.lists.specs.Tables.{cell, row}
+use Rattle.lists.specs.Tables.{cell}
 use Rattle.lists.specs.Folds.{total}
 use Rattle.lists.proofs.TestLaws.{pick-yes, pick-no, go, stop, and-no}
 use Rattle.lists.proofs.FoldLaws.{total-append}
@@ -19,15 +19,14 @@ use Rattle.rule.specs.Filling.{allLots}
 use Rattle.rule.specs.Day.{Day, mark}
 use Rattle.rule.specs.Run.{Allocation, coveredFrom, coveredTo, coveredPair, lotsFrom, lotsTo}
 use Rattle.rule.specs.Sound.{positionLimit, tallyLimit}
-use Rattle.rule.specs.Layout.{bookLength, view, signed}
-use Rattle.rule.proofs.SoundLaws.{SoundDay}
+use Rattle.rule.specs.Layout.{view, signed}
 use Rattle.rule.proofs.BookLaws.{SoundBook}
 use Rattle.rule.proofs.LayoutLaws.{Shaped, Holds, view-shaped, view-signed, view-holds, signed-cell}
 use Rattle.rule.proofs.RunLaws.{Runnable, Allocated, covered-from, covered-to}
 use Rattle.rule.proofs.RunLots.{lots-from-most, lots-to-most}
 use Rattle.runs.specs.Booked.{positionAt, markAt, tallyOf, YenMoved, LotsMoved}
 use Rattle.runs.specs.Filled.{participantsIn, issuesIn}
-use Rattle.runs.specs.Running.{Elsewhere, outOf, backTo, BookedTo}
+use Rattle.runs.specs.Running.{outOf, backTo, BookedTo}
 use Rattle.runs.proofs.DoneLaws.{Part, part-total}
 use Rattle.runs.proofs.SignLaws.{tally-out, tally-back, owed-less, due-less, marked-more}
 

@@ -1,5 +1,5 @@
 -- Laws of booking a match. Assumes nothing.
-use mathlib.Core.Path.{_≡_, refl, sym, ap, _∙_, subst}
+use mathlib.Core.Path.{_≡_, ap, _∙_}
 use mathlib.Core.Logic.{_≢_, _⊎_, inl, inr}
 use mathlib.Core.List.{List}
 use Prim.Native.Nat.{ℕ, _+_, _-_, _*_, _≤_, _<_, _%_, _^_}
@@ -10,10 +10,10 @@ use lib.Seq.{getD-set-same, getD-set-other}
 use lib.Dec.{ltb}
 use borrow.Rule.Slice.PartMut.{putMid}
 use Rattle.lists.specs.Tests.{pick}
-use Rattle.rule.specs.Layout.{bookLength, positionsAt, todayAt, tallyAt}
+use Rattle.rule.specs.Layout.{tallyAt}
 use Rattle.runs.specs.Rows.{Becomes, afterDelivery, afterReceipt}
-use Rattle.runs.specs.Booked.{positionAt, markAt, tallyOf, Bookable, BookableLots, YenMoved, LotsMoved}
-use Rattle.lists.proofs.PartLaws.{part-is, part-length, block-get}
+use Rattle.runs.specs.Booked.{positionAt, markAt, Bookable, BookableLots, YenMoved, LotsMoved}
+use Rattle.lists.proofs.PartLaws.{part-is, block-get}
 use Rattle.runs.proofs.RowLaws.{lent-size, lent-in, lent-out}
 
 -- ---- yen

@@ -1,5 +1,5 @@
 -- Laws of a deliverer's rows, and of filling a match from them. Assumes nothing.
-use mathlib.Core.Path.{_≡_, refl, sym, ap, ap₂, _∙_, subst}
+use mathlib.Core.Path.{_≡_, sym, ap, ap₂, _∙_, subst}
 use mathlib.Core.Bool.{Bool}
 use mathlib.Core.List.{List, _++_}
 use Prim.Native.Nat.{ℕ, _+_, _-_, _*_, _≤_, _<_}
@@ -8,14 +8,13 @@ use lib.ListN.{length, getD, take, drop, length-append, length-drop}
 use lib.Seq.{ext-getD, length-take-le, take-append-seam, getD-take}
 use lib.Dec.{eqb}
 use borrow.Rule.Slice.PartMut.{putMid}
-use Rattle.lists.specs.Tests.{pick}
 use Rattle.lists.specs.Tables.{table, zeros}
 use Rattle.lists.specs.Parts.{block}
 use Rattle.lists.proofs.TestLaws.{pick-elim}
-use Rattle.lists.proofs.TableLaws.{length-table, getD-table, length-zeros}
+use Rattle.lists.proofs.TableLaws.{length-table, getD-table}
 use Rattle.lists.proofs.PartLaws.{block-get, length-block, part-is, part-length}
 use Rattle.rule.specs.Filling.{Filled, filled, forcedIssue}
-use Rattle.rule.specs.Layout.{bookLength, termsAt, noticesAt}
+use Rattle.rule.specs.Layout.{termsAt, noticesAt}
 use Rattle.filling.specs.Ordered.{Ordered, orderKey}
 use Rattle.filling.specs.Match.{Matchable, FilledAs}
 use Rattle.filling.specs.declared.Filling.{Filling}

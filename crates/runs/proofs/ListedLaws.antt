@@ -1,13 +1,12 @@
 -- Laws of the lists of a run, with one match more. Assumes nothing.
-use mathlib.Core.Path.{_≡_, refl, sym, ap, ap₂, _∙_, subst}
-use mathlib.Core.Logic.{_≢_}
+use mathlib.Core.Path.{_≡_, refl, sym, ap, ap₂, _∙_}
 use mathlib.Core.Bool.{Bool, true, false}
 use mathlib.Core.List.{List, [], _∷_, _++_, map, append-nil, append-assoc}
-use Prim.Native.Nat.{ℕ, zero, suc, _+_, _-_, _*_, _≤_, _<_}
+use Prim.Native.Nat.{ℕ, suc, _+_, _-_, _*_, _≤_, _<_}
 use native.Mathlib.Nat.{add-zero}
 use native.Mathlib.Decide.{ℕ-discrete}
 use native.Mathlib.Omega.{arith}
-use lib.ListN.{length, getD, set, take, length-append, length-set, length-map}
+use lib.ListN.{length, getD, set, take, length-append, length-set}
 use lib.Seq.{getD-set-same, getD-set-other, take-append-seam}
 use lib.Dec.{ltb, eqb}
 use borrow.Author.Tests.{eq-eqb, ne-eqb}
@@ -16,7 +15,6 @@ use Rattle.lists.specs.Tables.{upTo, zeros}
 use Rattle.lists.specs.Folds.{keep, joined, Every}
 use Rattle.lists.specs.Parts.{over}
 use Rattle.lists.proofs.TestLaws.{pick-yes, pick-no}
-use Rattle.lists.proofs.PartLaws.{length-over}
 use Rattle.lists.proofs.AppendLaws.{map-append, joined-append, joined-length, over-more}
 use Rattle.rule.specs.Filling.{Filled, allLots}
 use Rattle.rule.specs.Run.{Allocation, matchEntry, linesOf, linesFrom, matchList, lineList}

@@ -1,7 +1,7 @@
 -- Laws of the two lists. Assumes nothing.
-use mathlib.Core.Path.{_≡_, refl, sym, ap, ap₂, _∙_, subst}
+use mathlib.Core.Path.{_≡_, refl, sym, ap, ap₂, _∙_}
 use mathlib.Core.Logic.{_≢_}
-use mathlib.Core.Bool.{Bool, true, false}
+use mathlib.Core.Bool.{Bool}
 use mathlib.Core.List.{List, [], _∷_, _++_, map, append-nil}
 use Prim.Native.Nat.{ℕ, zero, suc, _+_, _-_, _*_, _≤_, _<_}
 use native.Mathlib.Nat.{add-zero}
@@ -11,12 +11,11 @@ use lib.ListN.{length, getD, set, take, drop, length-append, take-append-drop}
 use lib.Dec.{ltb}
 use borrow.Author.Tests.{lt-ltb, le-ltb}
 use Rattle.lists.specs.Tests.{pick}
-use Rattle.lists.specs.Tables.{upTo, from}
+use Rattle.lists.specs.Tables.{upTo}
 use Rattle.lists.specs.Folds.{keep, joined, Every}
 use Rattle.lists.specs.Parts.{over}
 use Rattle.lists.proofs.TestLaws.{pick-yes, pick-no}
 use Rattle.lists.proofs.PartLaws.{length-over}
-use Rattle.lists.proofs.FoldLaws.{from-more}
 use Rattle.lists.proofs.AppendLaws.{map-append, keep-append, joined-append, joined-length, upTo-more, over-more, over-one, over-next}
 use Rattle.runs.specs.Listed.{lineFor, linesTo, linesFor, LineRoom, Lined, LinesRoom, Listed}
 

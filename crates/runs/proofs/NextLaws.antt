@@ -1,6 +1,5 @@
 -- Laws of the next match of a basket: that the code fills the definition's match. Assumes nothing.
 use mathlib.Core.Path.{_≡_, refl, sym, ap, ap₂, _∙_, subst}
-use mathlib.Core.Logic.{_≢_, _⊎_, inl, inr}
 use mathlib.Core.Bool.{Bool, true, false}
 use mathlib.Core.List.{List, [], _∷_, _++_}
 use Prim.Native.Nat.{ℕ, _+_, _-_, _*_, _≤_, _<_}
@@ -18,21 +17,20 @@ use Rattle.lists.proofs.PartLaws.{block-get, length-block, table-agree}
 use Rattle.rule.specs.Value.{Terms, noTerms}
 use Rattle.rule.specs.Baskets.{within}
 use Rattle.rule.specs.Matching.{Match}
-use Rattle.rule.specs.Filling.{Filled, filled, forcedIssue}
+use Rattle.rule.specs.Filling.{filled, forcedIssue}
 use Rattle.rule.specs.Day.{Day}
-use Rattle.rule.specs.Run.{Allocation, used, usedTable, allocableOf, usable, issueOrder, allocate, basketPlan, allocations}
-use Rattle.rule.specs.Layout.{bookLength, noticesAt, view}
-use Rattle.rule.proofs.BookLaws.{SoundBook}
+use Rattle.rule.specs.Run.{Allocation, used, usedTable, allocableOf, usable, issueOrder, allocate, basketPlan}
+use Rattle.rule.specs.Layout.{noticesAt, view}
 use Rattle.rule.proofs.LayoutLaws.{view-shaped, view-signed}
 use Rattle.rule.proofs.RunLaws.{Runnable, Allocated, allocated}
 use Rattle.rule.proofs.RunLots.{used-append, used-cell}
-use Rattle.matching.specs.Plans.{matchAt, matchesIn, Planned}
+use Rattle.matching.specs.Plans.{matchAt}
 use Rattle.matching.proofs.CallerLaws.{planned-at}
-use Rattle.filling.specs.Ordered.{Ordered, orderKey}
+use Rattle.filling.specs.Ordered.{orderKey}
 use Rattle.filling.proofs.OrderLaws.{ranked-alike}
-use Rattle.runs.specs.Stock.{termsIn, allocableIn, insideOf, usableOf, Allocable}
+use Rattle.runs.specs.Stock.{termsIn, insideOf, usableOf}
 use Rattle.runs.specs.Filled.{participantsIn, issuesIn, bookTerms, usableIn, filledIn, Loaded}
-use Rattle.runs.specs.Running.{doneTo, doneIn, doneAt, BookedTo, Start, Running, Tables, Planning}
+use Rattle.runs.specs.Running.{doneTo, doneIn, doneAt, Start, Running, Tables, Planning}
 use Rattle.runs.proofs.DoneLaws.{nextOf, done-next, Part, part-at, part-every}
 use Rattle.runs.proofs.ReadLaws.{terms-read, notices-read, runs-read, allocable-read, terms-are, low-kept, issues-kept, terms-kept}
 

@@ -1,15 +1,15 @@
 -- Laws of a basket's plan. Assumes nothing.
-use mathlib.Core.Path.{_≡_, refl, sym, ap, ap₂, _∙_, subst}
+use mathlib.Core.Path.{_≡_, sym, ap, ap₂, _∙_}
 use mathlib.Core.List.{List, map}
-use Prim.Native.Nat.{ℕ, _+_, _-_, _*_, _≤_, _<_}
+use Prim.Native.Nat.{ℕ, _+_, _-_, _*_, _≤_}
 use native.Mathlib.Omega.{arith}
 use lib.ListN.{length, getD, take, drop, length-map}
 use lib.Seq.{ext-getD}
 use Rattle.lists.specs.Parts.{block, grid}
 use Rattle.lists.proofs.TableLaws.{getD-map}
 use Rattle.lists.proofs.PartLaws.{block-get, length-block, part-is, part-length}
-use Rattle.rule.specs.Matching.{Match, plan}
-use Rattle.rule.specs.Layout.{bookLength, pairsAt, positionsAt, plus, minus}
+use Rattle.rule.specs.Matching.{plan}
+use Rattle.rule.specs.Layout.{pairsAt, positionsAt, plus, minus}
 use Rattle.matching.specs.Plans.{Basket, Planned, pairMarks}
 use Rattle.matching.proofs.CallerLaws.{sound-basket, marks-of-book}
 use Rattle.runs.specs.Rows.{Becomes}

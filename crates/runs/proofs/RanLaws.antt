@@ -1,9 +1,9 @@
 -- Laws of a whole run: the loop over the baskets, the notices cleared, and the book that is left. Assumes nothing.
 use mathlib.Core.Path.{_≡_, refl, sym, ap, ap₂, _∙_, subst}
 use mathlib.Core.Logic.{_≢_, _⊎_, inl, inr}
-use mathlib.Core.List.{List, [], _∷_, _++_}
+use mathlib.Core.List.{List, []}
 use Prim.Native.Nat.{ℕ, _+_, _-_, _*_, _≤_, _<_}
-use native.Mathlib.Nat.{not-suc-le-zero, add-zero}
+use native.Mathlib.Nat.{not-suc-le-zero}
 use native.Mathlib.Decide.{ℕ-discrete}
 use native.Mathlib.Omega.{arith}
 use lib.ListN.{length, getD, set, take, drop, length-set}
@@ -11,7 +11,7 @@ use lib.Seq.{getD-set-same, getD-set-other}
 use borrow.Rule.Slice.PartMut.{putMid}
 use lib.Dec.{ltb}
 use Rattle.lists.specs.Tests.{pick}
-use Rattle.lists.specs.Tables.{table, zeros, zeroRows, row, cell}
+use Rattle.lists.specs.Tables.{table, zeros, row, cell}
 use Rattle.lists.specs.Folds.{joined, Every}
 use Rattle.lists.specs.Parts.{block, over}
 use Rattle.lists.proofs.TableLaws.{getD-table, getD-zeros, length-zeros}
@@ -32,7 +32,7 @@ use Rattle.runs.specs.Rows.{Becomes}
 use Rattle.runs.specs.Stock.{Rows}
 use Rattle.runs.specs.Booked.{positionAt, markAt, tallyOf}
 use Rattle.runs.specs.Filled.{participantsIn, issuesIn, Sized}
-use Rattle.runs.specs.Running.{doneTo, Elsewhere, BookedTo, Start, Running, Tables, Begun, BasketAsks}
+use Rattle.runs.specs.Running.{doneTo, BookedTo, Start, Running, BasketAsks}
 use Rattle.runs.specs.Ran.{BasketsAsk, BasketsDone, Cleared, Ran}
 use Rattle.runs.proofs.RowLaws.{lent-size, lent-in, lent-out}
 use Rattle.runs.proofs.BookingLaws.{where-is}

@@ -1,37 +1,35 @@
 -- Laws of reading the book: what the cells say of the day, and that a run's bookings leave them. Assumes nothing.
 use mathlib.Core.Path.{_≡_, refl, sym, ap, ap₂, _∙_, subst}
-use mathlib.Core.Logic.{_≢_, _⊎_, inl, inr}
-use mathlib.Core.Bool.{Bool, true, false, _&&_}
+use mathlib.Core.Logic.{_≢_}
+use mathlib.Core.Bool.{_&&_}
 use mathlib.Core.List.{List, [], _∷_, _++_, map}
 use Prim.Native.Nat.{ℕ, zero, suc, _+_, _-_, _*_, _≤_, _<_}
-use native.Mathlib.Nat.{not-suc-le-zero, sub-zero}
 use native.Mathlib.Numerals.{add-one}
 use native.Mathlib.Omega.{arith}
-use lib.ListN.{length, getD, length-map}
-use lib.Seq.{ext-getD}
+use lib.ListN.{length, getD}
 use lib.Dec.{eqb}
 use borrow.Author.Tests.{ne-eqb}
 use Rattle.lists.specs.Tests.{pick}
 use Rattle.lists.specs.Tables.{table, row, cell}
-use Rattle.lists.specs.Folds.{foldl, total, Every}
+use Rattle.lists.specs.Folds.{total, Every}
 use Rattle.lists.specs.Parts.{block, grid}
 use Rattle.lists.proofs.TestLaws.{pick-no, stop}
 use Rattle.lists.proofs.FoldLaws.{fold-kept, every-append, every-all}
 use Rattle.lists.proofs.TableLaws.{getD-table, getD-map, length-table}
-use Rattle.lists.proofs.PartLaws.{block-get, length-block, blocks-agree, grid-get, table-agree, grid-agree}
+use Rattle.lists.proofs.PartLaws.{blocks-agree, grid-get, table-agree, grid-agree}
 use Rattle.rule.specs.Value.{Terms, noTerms}
 use Rattle.rule.specs.Allocable.{allocable}
-use Rattle.rule.specs.Matching.{Match, plan}
+use Rattle.rule.specs.Matching.{plan}
 use Rattle.rule.specs.Day.{Day, termsOf}
 use Rattle.rule.specs.Run.{Allocation, usedTable, allocate, basketPlan, basket, allocableOf, coveredFrom, coveredTo}
-use Rattle.rule.specs.Layout.{bookLength, termsAt, receiptsAt, pairsAt, positionsAt, noticesAt, todayAt, plus, minus, view, signed}
+use Rattle.rule.specs.Layout.{termsAt, receiptsAt, pairsAt, positionsAt, noticesAt, todayAt, plus, minus, view, signed}
 use Rattle.rule.proofs.BookLaws.{SoundBook}
 use Rattle.matching.proofs.ListLaws.{block-block}
 use Rattle.filling.specs.Rated.{termsIn as termsOfBlock}
 use Rattle.runs.specs.Stock.{termsIn, allocableIn}
-use Rattle.runs.specs.Booked.{positionAt, markAt, tallyOf}
+use Rattle.runs.specs.Booked.{positionAt}
 use Rattle.runs.specs.Filled.{participantsIn, issuesIn, Sized, positionsIn, planIn, bookTerms}
-use Rattle.runs.specs.Running.{doneTo, Elsewhere, BookedTo}
+use Rattle.runs.specs.Running.{doneTo, BookedTo}
 use Rattle.runs.proofs.DoneLaws.{to-more}
 use Rattle.runs.proofs.BookedLaws.{booked-none}
 

@@ -1,10 +1,9 @@
 -- Laws of a run in progress: what the next match asks, and what it leaves. Assumes nothing.
 use mathlib.Core.Path.{_≡_, refl, sym, ap, ap₂, _∙_, subst}
 use mathlib.Core.Logic.{_≢_}
-use mathlib.Core.Bool.{Bool, true, false, _&&_}
-use mathlib.Core.List.{List, [], _∷_, _++_, map}
+use mathlib.Core.Bool.{Bool, _&&_}
+use mathlib.Core.List.{List, [], _∷_, _++_}
 use Prim.Native.Nat.{ℕ, _+_, _-_, _*_, _≤_, _<_}
-use native.Mathlib.Nat.{mul-le-mul-left}
 use native.Mathlib.Decide.{ℕ-discrete}
 use native.Mathlib.Omega.{arith}
 use lib.ListN.{length, getD, take, length-append}
@@ -12,7 +11,6 @@ use lib.Seq.{getD-set-same}
 use lib.Dec.{eqb}
 use borrow.Author.Tests.{eq-eqb, ne-eqb}
 use Rattle.lists.specs.Tests.{pick}
-use Rattle.lists.specs.Tables.{cell}
 use Rattle.lists.specs.Folds.{joined}
 use Rattle.lists.specs.Parts.{over}
 use Rattle.lists.specs.Order.{ranked}
@@ -21,10 +19,8 @@ use Rattle.lists.proofs.PartLaws.{length-over}
 use Rattle.rule.specs.Value.{Terms}
 use Rattle.rule.specs.Filling.{Filled, allLots}
 use Rattle.rule.specs.Allocable.{allocable}
-use Rattle.rule.specs.Run.{Allocation, used, basketPlan, allocate, allocations, allocableOf, lotsFrom, matchEntry, matchList, lineList, linesOf, linesFrom}
-use Rattle.rule.specs.Sound.{noticeLimit}
-use Rattle.rule.specs.Layout.{bookLength, receiptsAt, noticesAt, todayAt, view}
-use Rattle.rule.proofs.BookLaws.{SoundBook}
+use Rattle.rule.specs.Run.{Allocation, used, allocate, lotsFrom, matchEntry, lineList, linesOf, linesFrom}
+use Rattle.rule.specs.Layout.{receiptsAt, noticesAt, view}
 use Rattle.rule.proofs.RunLaws.{Runnable, Allocated, matched-from, few-allocations}
 use Rattle.rule.proofs.RunLots.{used-most, lots-from-most}
 use Rattle.rule.proofs.RunLists.{few-lines}
@@ -37,16 +33,16 @@ use Rattle.filling.proofs.RowLaws.{length-padded}
 use Rattle.filling.specs.Ordered.{orderKey}
 use Rattle.filling.proofs.OrderLaws.{ordered-inside, ranked-alike}
 use Rattle.runs.specs.Stock.{termsIn, allocableIn}
-use Rattle.runs.specs.Listed.{entryOf, linesFor, Listed}
+use Rattle.runs.specs.Listed.{entryOf, linesFor}
 use Rattle.runs.specs.Booked.{YenMoved, LotsMoved}
-use Rattle.runs.specs.Filled.{participantsIn, issuesIn, bookTerms, Loadable, Loaded, Fillable, filledIn, lotsWith, Used, Writable, Wrote}
-use Rattle.runs.specs.Running.{doneTo, doneIn, doneAt, BookedTo, Start, Running, Tables, Planning}
+use Rattle.runs.specs.Filled.{participantsIn, issuesIn, Loadable, Loaded, Fillable, filledIn, lotsWith, Writable, Wrote}
+use Rattle.runs.specs.Running.{doneAt, Start, Running, Tables, Planning}
 use Rattle.runs.proofs.DoneLaws.{nextOf, Part, part-total, part-length}
 use Rattle.runs.proofs.BookedLaws.{booked-more, more-yes, more-no}
 use Rattle.runs.proofs.ReadLaws.{notices-read, allocable-read, sized-kept, issues-kept, terms-kept, notices-kept}
-use Rattle.runs.proofs.NextLaws.{runnable, next, next-is, next-part, next-allocated, next-basket, next-deliverer, next-receiver, next-amount, deliverer-of-day, receiver-of-day, next-filled}
+use Rattle.runs.proofs.NextLaws.{runnable, next, next-is, next-part, next-allocated, next-deliverer, next-receiver, next-amount, deliverer-of-day, receiver-of-day, next-filled}
 use Rattle.runs.proofs.ListingLaws.{cells-for}
-use Rattle.runs.proofs.ListedLaws.{lines-append, lines-more, match-cells, line-cells, entry-is, front-is, all-lots, all-size, lines-are, entries-more, rows-more}
+use Rattle.runs.proofs.ListedLaws.{lines-append, lines-more, entry-is, front-is, all-lots, all-size, lines-are, entries-more, rows-more}
 
 module _ (b draw m₀ l₀ : List ℕ) (S : Start b draw m₀ l₀) (k : ℕ) (basket : k < 7) (cells : List ℕ) (count : ℕ) (inside before : List ℕ)
     (P : Planning b draw k cells count inside before) (j : ℕ) (l : j < count) (rates allocable : List ℕ) (T : Tables b rates allocable) where

@@ -9,7 +9,6 @@ use Rattle.lists.specs.Tests.{pick}
 use Rattle.lists.specs.Tables.{upTo, cell}
 use Rattle.lists.specs.Folds.{foldl, joined}
 use Rattle.lists.specs.Parts.{over}
-use Rattle.rule.specs.Matching.{Match}
 use Rattle.rule.specs.Day.{Day, mark}
 use Rattle.rule.specs.Run.{Allocation, used, usedTable, allocate, basketPlan, basket, coveredFrom, coveredTo, coveredPair, lotsFrom, lotsTo, matchList, lineList}
 use Rattle.rule.specs.Calls.{matchSize, lineSize, mostMatches, mostLines}

@@ -1,7 +1,7 @@
-use mathlib.Core.Path.{_≡_, refl, sym, _∙_, ap}
-use Prim.Native.Nat.{ℕ, _≤_, _<_, _-_, _+_, _*_}
+-- `allocation::run::names_each_once` meets its contract. Assumes nothing.
+use mathlib.Core.Path.{_≡_, sym, _∙_}
+use Prim.Native.Nat.{_≤_, _-_}
 use native.Mathlib.Omega.{arith}
-use lib.ListN.{length, getD}
 use borrow.Author.Needs.{needs}
 use mathlib.Core.Bool.{true}
 use borrow.Author.Tests.{eq-eqb}
@@ -17,35 +17,27 @@ Inv-loop draw participants p₀ p = (p ≤ participants) × (allBelow p (once dr
 abbrev μ-loop : tie.MeasureT-loop
 μ-loop draw participants p₀ p = participants - p
 
--- src/run.rt:38:9
 returns : tie.Need-returns Inv-loop μ-loop
 returns c = other-length _ _ (c .if1 .taken)
 
--- src/run.rt:41:5
 loop-holds : tie.Need-loop-holds Inv-loop μ-loop
 loop-holds c = (omega arith, all-none (once (c .before .before .args .draw .now)))
 
--- src/run.rt:42:12
 times-named-requires : tie.Need-times-named-requires Inv-loop μ-loop
 times-named-requires c κs = search needs
 
--- src/run.rt:43:13
 returns-2 : tie.Need-returns-2 Inv-loop μ-loop
 returns-2 c = not-once _ _ (c .before .before .before .before .if1 .left) _ (c .before .before .loop-test .taken) (λ e. c .if2 .taken (c .before .times-named .ensures ∙ e))
 
--- src/run.rt:45:9
 add-p : tie.Need-add-p Inv-loop μ-loop
 add-p c = omega arith
 
--- src/run.rt:41:5
 loop-less : tie.Need-loop-less Inv-loop μ-loop
 loop-less c = omega arith
 
--- src/run.rt:41:5
 loop-again : tie.Need-loop-again Inv-loop μ-loop
 loop-again c = (omega arith, all-more (once (c .before .before .before .before .before .before .args .draw .now)) _ (c .before .before .before .loop .inv .1) (eq-eqb _ _ (sym (c .before .times-named .ensures) ∙ c .if2 .left)))
 
--- src/run.rt:34:1
 returns-3 : tie.Need-returns-3 Inv-loop μ-loop
 returns-3 c = all-once _ _ (c .before .before .if1 .left) (all-through (once (c .before .before .before .before .args .draw .now)) _ _ (c .before .loop .inv .0) (c .loop-test .left) (c .before .loop .inv .1))
 

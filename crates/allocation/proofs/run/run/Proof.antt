@@ -1,7 +1,6 @@
-use mathlib.Core.Path.{_≡_, refl, sym, _∙_, ap}
-use Prim.Native.Nat.{ℕ, _≤_, _<_, _-_, _+_, _*_}
+-- `allocation::run::run` meets its contract. Assumes nothing.
+use Prim.Native.Nat.{_-_}
 use native.Mathlib.Omega.{arith}
-use lib.ListN.{length, getD}
 use borrow.Author.Needs.{needs}
 use Rattle.lists.proofs.TestLaws.{flag-no, flag-yes}
 use Rattle.rule.specs.Calls.{refusal}
@@ -12,37 +11,29 @@ use Rattle.allocation.specs.RunChecked.{runSound}
 use Rattle.allocation.proofs.run.run.Statement.{statement}
 use Rattle.allocation.proofs.run.run.Tie as tie
 
--- src/run.rt:77:9
 sound-requires : tie.Need-sound-requires
 sound-requires c κs = search needs
 
--- src/run.rt:78:9
 same-length : tie.Need-same-length
 same-length c = search needs
 
--- src/run.rt:78:9
 returns : tie.Need-returns
 unfolding runOf refusal
 returns c = search (answers, flag-no, needs)
 
--- src/run.rt:80:5
 run-sound-requires : tie.Need-run-sound-requires
 run-sound-requires c κs =
     sound-book _ (λ j. omega (arith, c .before .before .before .before .before .before .before .before .before .slice-known .given j)) (flag-yes _ _ (c .before .before .before .before .sound .ensures) (c .before .before .before .if1 .left))
 
--- src/run.rt:74:1
 same-length-2 : tie.Need-same-length-2
 same-length-2 c = search needs
 
--- src/run.rt:74:1
 same-length-3 : tie.Need-same-length-3
 same-length-3 c = search needs
 
--- src/run.rt:74:1
 same-length-4 : tie.Need-same-length-4
 same-length-4 c = search needs
 
--- src/run.rt:74:1
 returns-2 : tie.Need-returns-2
 unfolding runOf refusal runSound
 returns-2 c = search (answers, flag-yes, needs)

@@ -1,58 +1,45 @@
-use mathlib.Core.Path.{_≡_, refl, sym, _∙_, ap}
-use Prim.Native.Nat.{ℕ, _≤_, _<_, _-_, _+_, _*_}
+-- `allocation::run::run_sound` meets its contract. Assumes nothing.
+use Prim.Native.Nat.{_-_}
 use native.Mathlib.Omega.{arith}
-use lib.ListN.{length, getD}
 use borrow.Author.Needs.{needs}
 use Rattle.lists.proofs.TestLaws.{flag-no, flag-yes}
 use Rattle.allocation.proofs.RunLaws.{three-done, wrong-draw, short-matches, short-lines, run-asks, all-ran}
 use Rattle.allocation.proofs.run.run_sound.Statement.{statement}
 use Rattle.allocation.proofs.run.run_sound.Tie as tie
 
--- src/run.rt:55:8
 slice-read-if1 : tie.Need-slice-read-if1
 slice-read-if1 c = omega (arith, c .before .before .before .before .before .pre .readable .size)
 
--- src/run.rt:56:9
 returns : tie.Need-returns
 returns c = three-done _ _ _ _ (c .if1 .taken)
 
--- src/run.rt:58:31
 slice-read-names-each-once : tie.Need-slice-read-names-each-once
 slice-read-names-each-once c = omega (arith, c .before .before .before .before .before .before .before .pre .readable .size)
 
--- src/run.rt:58:9
 names-each-once-requires : tie.Need-names-each-once-requires
 names-each-once-requires c κs = search needs
 
--- src/run.rt:59:9
 returns-2 : tie.Need-returns-2
 returns-2 c = wrong-draw _ _ _ _ (c .before .before .before .if1 .left) (flag-no _ _ (c .before .names-each-once .ensures) (c .if2 .taken))
 
--- src/run.rt:62:9
 returns-3 : tie.Need-returns-3
 returns-3 c = short-matches _ _ _ _ (c .before .before .before .before .if1 .left) (flag-yes _ _ (c .before .before .names-each-once .ensures) (c .before .if2 .left)) (c .if3 .taken)
 
--- src/run.rt:65:9
 returns-4 : tie.Need-returns-4
 returns-4 c = short-lines _ _ _ _ (c .before .before .before .before .before .if1 .left) (flag-yes _ _ (c .before .before .before .names-each-once .ensures) (c .before .before .if2 .left)) (c .before .if3 .left) (c .if4 .taken)
 
--- src/run.rt:67:9
 run-requires : tie.Need-run-requires
 run-requires c κs = run-asks _ _ _ _ (c .before .before .before .before .before .before .before .before .if1 .left) (flag-yes _ _ (c .before .before .before .before .before .before .names-each-once .ensures) (c .before .before .before .before .before .if2 .left)) (c .before .before .before .before .if3 .left) (c .before .before .before .if4 .left) (c .before .before .before .before .before .before .before .before .before .before .before .before .before .before .pre)
 
--- src/run.rt:51:1
 same-length : tie.Need-same-length
 same-length c = search needs
 
--- src/run.rt:51:1
 same-length-2 : tie.Need-same-length-2
 same-length-2 c = search needs
 
--- src/run.rt:51:1
 same-length-3 : tie.Need-same-length-3
 same-length-3 c = search needs
 
--- src/run.rt:51:1
 returns-5 : tie.Need-returns-5
 returns-5 c = all-ran _ _ _ _ (c .before .before .before .before .before .before .before .before .before .before .before .before .before .before .before .if1 .left) (flag-yes _ _ (c .before .before .before .before .before .before .before .before .before .before .before .before .before .names-each-once .ensures) (c .before .before .before .before .before .before .before .before .before .before .before .before .if2 .left)) (c .before .before .before .before .before .before .before .before .before .before .before .if3 .left) (c .before .before .before .before .before .before .before .before .before .before .if4 .left) (c .before .before .before .before .before .before .run .ensures)
 

@@ -1,5 +1,5 @@
-use mathlib.Core.Path.{_≡_, refl, sym, _∙_, ap}
-use Prim.Native.Nat.{ℕ, _≤_, _<_, _-_, _+_, _*_}
+-- `allocation::run::times_named` meets its contract. Assumes nothing.
+use Prim.Native.Nat.{_-_}
 use native.Mathlib.Omega.{arith}
 use lib.ListN.{length, getD}
 use borrow.Author.Needs.{needs}
@@ -15,39 +15,30 @@ Inv-loop draw participant times₀ j₀ j-end times j = NamedTo draw participant
 abbrev μ-loop : tie.MeasureT-loop
 μ-loop draw participant times₀ j₀ j-end times j = length draw - j
 
--- src/run.rt:27:5
 loop-holds : tie.Need-loop-holds Inv-loop μ-loop
 loop-holds c = named-none _ _
 
--- src/run.rt:28:32
 mul-one-if : tie.Need-mul-one-if Inv-loop μ-loop
 mul-one-if c = omega arith
 
--- src/run.rt:28:32
 shared-slice-read-one-if : tie.Need-shared-slice-read-one-if Inv-loop μ-loop
 shared-slice-read-one-if c = omega arith
 
--- src/run.rt:28:18
 one-if-requires : tie.Need-one-if-requires Inv-loop μ-loop
 one-if-requires c κs = search needs
 
--- src/run.rt:28:9
 add-times : tie.Need-add-times Inv-loop μ-loop
 add-times c = omega (arith, c .before .before .before .loop .inv .few, one-most (eqb (getD (c .before .before .before .before .before .args .draw .now) (c .before .before .before .loop .j) 0) (c .before .before .before .before .before .args .participant)) (c .one-if .ensures))
 
--- src/run.rt:27:9
 add-j : tie.Need-add-j Inv-loop μ-loop
 add-j c = omega arith
 
--- src/run.rt:27:5
 loop-less : tie.Need-loop-less Inv-loop μ-loop
 loop-less c = omega arith
 
--- src/run.rt:27:5
 loop-again : tie.Need-loop-again Inv-loop μ-loop
 loop-again c = named-more _ _ (c .before .before .before .loop .inv) (omega arith) (c .one-if .ensures)
 
--- src/run.rt:23:1
 returns : tie.Need-returns Inv-loop μ-loop
 returns c = named-all _ _ (c .before .loop .inv) (omega arith)
 

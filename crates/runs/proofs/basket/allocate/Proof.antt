@@ -1,18 +1,12 @@
-use mathlib.Core.Path.{_≡_, refl, sym, _∙_, ap}
-use Prim.Native.Nat.{ℕ, _≤_, _<_, _-_, _+_, _*_}
+-- `runs::basket::allocate` meets its contract. Assumes nothing.
+use mathlib.Core.Path.{refl, sym}
+use Prim.Native.Nat.{_-_}
 use native.Mathlib.Omega.{arith}
-use lib.ListN.{length, getD}
-use borrow.Author.Needs.{needs}
 use Rattle.runs.proofs.AllocateLaws.{Allocating, allocating-none, rows-asked, fill-asked, write-asked, allocating-more, allocating-all, book-size, used-size, matches-size, lines-size}
 use lib.Seq.{length-take-le}
 use Rattle.runs.proofs.AllocateLaws.{lots-long}
 use Rattle.runs.proofs.basket.allocate.Statement.{statement}
 use Rattle.runs.proofs.basket.allocate.Tie as tie
-use Rattle.runs.proofs.basket.allocate.Reads as reads
-use Rattle.runs.proofs.basket.allocate.Lts as lts
-use Rattle.runs.proofs.basket.rows_for.Reads as rows-for-reads
-use Rattle.runs.proofs.matched.fill_next.Reads as fill-next-reads
-use Rattle.runs.proofs.matched.write_next.Reads as write-next-reads
 
 abbrev Inv-loop : tie.InvT-loop
 Inv-loop book₀ basket cells count rates inside allocable before used₀ matches₀ lines₀ issues notified₀ order₀ done₀ j₀ book used matches lines notified order done j =
@@ -21,63 +15,48 @@ Inv-loop book₀ basket cells count rates inside allocable before used₀ matche
 abbrev μ-loop : tie.MeasureT-loop
 μ-loop book₀ basket cells count rates inside allocable before used₀ matches₀ lines₀ issues notified₀ order₀ done₀ j₀ book used matches lines notified order done j = count - j
 
--- src/basket.rt:53:18
 slice-read-issues : tie.Need-slice-read-issues Inv-loop μ-loop
 slice-read-issues c = omega (arith, c .before .before .before .before .before .before .before .pre .begun .running .booked .size)
 
--- src/basket.rt:57:5
 loop-holds : tie.Need-loop-holds Inv-loop μ-loop
 loop-holds c = allocating-none _ _ _ _ _ _ _ _ _ _ _ _ _ _ _ refl refl
 
--- src/basket.rt:59:9
 rows-for-requires : tie.Need-rows-for-requires Inv-loop μ-loop
 rows-for-requires c κs = rows-asked _ _ _ _ _ _ _ _ _ _ _ _ _ (c .before .before .before .before .loop .inv) (c .before .before .before .loop-test .taken) (c .before .before .before .before .before .before .before .before .before .before .before .before .pre)
 
--- src/basket.rt:60:13
 fill-next-requires : tie.Need-fill-next-requires Inv-loop μ-loop
 fill-next-requires c κs = fill-asked _ _ _ _ _ _ _ _ _ _ _ _ _ (c .before .before .before .before .before .before .before .before .before .before .loop .inv) (c .before .before .before .before .before .before .before .before .before .loop-test .taken) (c .before .before .before .before .before .rows-for .ensures) _ refl (c .before .before .before .before .before .before .before .before .before .before .before .before .before .before .before .before .before .before .pre)
 
--- src/basket.rt:79:13
 array-borrow-prefix-lots : tie.Need-array-borrow-prefix-lots Inv-loop μ-loop
 array-borrow-prefix-lots c = lots-long _ _ _ _ _ _ _ _ _ _ _ _ _ (c .before .before .before .before .before .before .before .before .before .before .before .before .loop .inv) (c .before .before .before .before .before .before .before .before .before .before .before .loop-test .taken) (c .before .before .before .before .before .before .before .rows-for .ensures) (c .before .fill-next .ensures) (c .before .before .before .before .before .before .before .before .before .before .before .before .before .before .before .before .before .before .before .before .pre)
 
--- src/basket.rt:79:13
 slice-aggregate-write-next : tie.Need-slice-aggregate-write-next Inv-loop μ-loop
 slice-aggregate-write-next c = sym (length-take-le _ _ (lots-long _ _ _ _ _ _ _ _ _ _ _ _ _ (c .before .before .before .before .before .before .before .before .before .before .before .before .before .loop .inv) (c .before .before .before .before .before .before .before .before .before .before .before .before .loop-test .taken) (c .before .before .before .before .before .before .before .before .rows-for .ensures) (c .before .before .fill-next .ensures) (c .before .before .before .before .before .before .before .before .before .before .before .before .before .before .before .before .before .before .before .before .before .pre)))
 
--- src/basket.rt:73:9
 write-next-requires : tie.Need-write-next-requires Inv-loop μ-loop
 write-next-requires c κs = write-asked _ _ _ _ _ _ _ _ _ _ _ _ _ (c .before .before .before .before .before .before .before .before .before .before .before .before .before .before .before .before .loop .inv) (c .before .before .before .before .before .before .before .before .before .before .before .before .before .before .before .loop-test .taken) (c .before .before .before .before .before .before .before .before .before .before .before .rows-for .ensures) (c .before .before .before .before .before .fill-next .ensures) (c .before .before .before .before .before .before .before .before .before .before .before .before .before .before .before .before .before .before .before .before .before .before .before .before .pre)
 
--- src/basket.rt:57:9
 add-j : tie.Need-add-j Inv-loop μ-loop
 add-j c = omega (arith, c .before .before .before .before .before .before .before .before .before .before .before .before .before .before .before .before .before .before .before .before .before .before .before .before .before .loop-test .taken, c .before .before .before .before .before .before .before .before .before .before .before .before .before .before .before .before .before .before .before .before .before .before .before .before .before .before .before .before .before .before .before .before .before .before .pre .planning .few)
 
--- src/basket.rt:57:5
 loop-less : tie.Need-loop-less Inv-loop μ-loop
 loop-less c = omega (arith, c .before .before .before .before .before .before .before .before .before .before .before .before .before .before .before .before .before .before .before .before .before .before .before .before .before .loop-test .taken)
 
--- src/basket.rt:57:5
 loop-again : tie.Need-loop-again Inv-loop μ-loop
 loop-again c = allocating-more _ _ _ _ _ _ _ _ _ _ _ _ _ (c .before .before .before .before .before .before .before .before .before .before .before .before .before .before .before .before .before .before .before .before .before .before .before .before .before .before .loop .inv) (c .before .before .before .before .before .before .before .before .before .before .before .before .before .before .before .before .before .before .before .before .before .before .before .before .before .loop-test .taken) (c .before .before .before .before .before .before .before .before .before .before .before .before .before .before .before .before .before .before .before .before .before .rows-for .ensures) (c .before .before .before .before .before .before .before .before .before .before .before .before .before .before .before .fill-next .ensures) (c .before .before .before .before .before .before .before .before .before .write-next .ensures)
 
--- src/basket.rt:35:1
 same-length : tie.Need-same-length Inv-loop μ-loop
 same-length c = book-size _ _ _ _ _ _ _ _ _ _ _ _ _ (c .before .loop .inv) (c .before .before .before .before .before .before .before .before .before .pre)
 
--- src/basket.rt:35:1
 same-length-2 : tie.Need-same-length-2 Inv-loop μ-loop
 same-length-2 c = used-size _ _ _ _ _ _ _ _ _ _ _ _ _ (c .before .loop .inv) (c .before .before .before .before .before .before .before .before .before .pre)
 
--- src/basket.rt:35:1
 same-length-3 : tie.Need-same-length-3 Inv-loop μ-loop
 same-length-3 c = matches-size _ _ _ _ _ _ _ _ _ _ _ _ _ (c .before .loop .inv) (c .before .before .before .before .before .before .before .before .before .pre)
 
--- src/basket.rt:35:1
 same-length-4 : tie.Need-same-length-4 Inv-loop μ-loop
 same-length-4 c = lines-size _ _ _ _ _ _ _ _ _ _ _ _ _ (c .before .loop .inv) (c .before .before .before .before .before .before .before .before .before .pre)
 
--- src/basket.rt:35:1
 returns : tie.Need-returns Inv-loop μ-loop
 returns c = allocating-all _ _ _ _ _ _ _ _ _ _ _ _ _ (c .loop-test .left) (c .before .loop .inv)
 

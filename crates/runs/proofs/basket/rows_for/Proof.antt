@@ -1,53 +1,40 @@
-use mathlib.Core.Path.{_≡_, refl, sym, _∙_, ap}
-use Prim.Native.Nat.{ℕ, _≤_, _<_, _-_, _+_, _*_}
-use native.Mathlib.Omega.{arith}
-use lib.ListN.{length, getD}
+-- `runs::basket::rows_for` meets its contract. Assumes nothing.
+use Prim.Native.Nat.{_-_}
 use borrow.Author.Needs.{needs}
 use Rattle.runs.proofs.AllocateLaws.{rows-same}
 use Rattle.runs.proofs.basket.rows_for.Statement.{statement}
 use Rattle.runs.proofs.basket.rows_for.Tie as tie
 
--- src/basket.rt:26:8
 follows-requires : tie.Need-follows-requires
 follows-requires c κs = search needs
 
--- src/basket.rt:27:9
 returns : tie.Need-returns
 returns c = rows-same _ _ _ _ _ _ (c .before .follows .ensures (c .if1 .taken)) (c .before .before .before .before .pre .last (c .before .follows .ensures (c .if1 .taken) .second))
 
--- src/basket.rt:29:27
 mul-deliverer : tie.Need-mul-deliverer
 mul-deliverer c = search needs
 
--- src/basket.rt:29:21
 mul-deliverer-2 : tie.Need-mul-deliverer-2
 mul-deliverer-2 c = search needs
 
--- src/basket.rt:29:21
 element-copy-out-deliverer : tie.Need-element-copy-out-deliverer
 element-copy-out-deliverer c = search needs
 
--- src/basket.rt:30:22
 mul-sort : tie.Need-mul-sort
 mul-sort c = search needs
 
--- src/basket.rt:30:22
 add-sort : tie.Need-add-sort
 add-sort c = search needs
 
--- src/basket.rt:30:16
 mul-sort-2 : tie.Need-mul-sort-2
 mul-sort-2 c = search needs
 
--- src/basket.rt:30:16
 element-copy-out-sort : tie.Need-element-copy-out-sort
 element-copy-out-sort c = search needs
 
--- src/basket.rt:31:5
 load-rows-requires : tie.Need-load-rows-requires
 load-rows-requires c κs = search needs
 
--- src/basket.rt:15:1
 returns-2 : tie.Need-returns-2
 returns-2 c = search needs
 

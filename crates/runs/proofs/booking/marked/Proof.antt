@@ -1,18 +1,14 @@
-use mathlib.Core.Path.{_≡_, refl, sym, _∙_, ap}
-use Prim.Native.Nat.{ℕ, _≤_, _<_, _-_, _+_, _*_}
-use native.Mathlib.Omega.{arith}
-use lib.ListN.{length, getD}
-use borrow.Author.Needs.{needs}
+-- `runs::booking::marked` meets its contract. Assumes nothing.
+use mathlib.Core.Path.{sym}
+use Prim.Native.Nat.{_-_}
 use borrow.Author.Tests.{lt-ltb, le-ltb}
 use Rattle.lists.proofs.TestLaws.{pick-yes, pick-no}
 use Rattle.runs.proofs.booking.marked.Statement.{statement}
 use Rattle.runs.proofs.booking.marked.Tie as tie
 
--- src/booking.rt:12:1
 returns : tie.Need-returns
 returns c = sym (pick-yes _ _ _ (lt-ltb _ _ (c .if1 .taken)))
 
--- src/booking.rt:12:1
 returns-2 : tie.Need-returns-2
 returns-2 c = sym (pick-no _ _ _ (le-ltb _ _ (c .if1 .left)))
 

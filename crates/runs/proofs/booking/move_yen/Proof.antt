@@ -1,7 +1,7 @@
-use mathlib.Core.Path.{_≡_, refl, sym, _∙_, ap}
-use Prim.Native.Nat.{ℕ, _≤_, _<_, _-_, _+_, _*_}
+-- `runs::booking::move_yen` meets its contract. Assumes nothing.
+use Prim.Native.Nat.{_-_}
 use native.Mathlib.Omega.{arith}
-use lib.ListN.{length, getD, length-set}
+use lib.ListN.{getD, length-set}
 use borrow.Author.Needs.{needs}
 use Rattle.runs.proofs.BookingLaws.{yen-moved}
 use Rattle.runs.proofs.RowLaws.{lowered}
@@ -9,107 +9,81 @@ use Rattle.runs.specs.Booked.{positionAt}
 use Rattle.runs.proofs.booking.move_yen.Statement.{statement}
 use Rattle.runs.proofs.booking.move_yen.Tie as tie
 
--- src/booking.rt:23:41
 mul-positions : tie.Need-mul-positions
 mul-positions c = search needs
 
--- src/booking.rt:23:21
 add-positions : tie.Need-add-positions
 add-positions c = search needs
 
--- src/booking.rt:24:16
 add-from : tie.Need-add-from
 add-from c = search needs
 
--- src/booking.rt:25:14
 add-to : tie.Need-add-to
 add-to c = search needs
 
--- src/booking.rt:26:32
 mul-pair : tie.Need-mul-pair
 mul-pair c = search needs
 
--- src/booking.rt:26:16
 add-pair : tie.Need-add-pair
 add-pair c = search needs
 
--- src/booking.rt:26:58
 mul-pair-2 : tie.Need-mul-pair-2
 mul-pair-2 c = search needs
 
--- src/booking.rt:26:16
 add-pair-2 : tie.Need-add-pair-2
 add-pair-2 c = search needs
 
--- src/booking.rt:26:16
 add-pair-3 : tie.Need-add-pair-3
 add-pair-3 c = search needs
 
--- src/booking.rt:27:43
 mul-wrapping-sub-u64 : tie.Need-mul-wrapping-sub-u64
 mul-wrapping-sub-u64 c = search needs
 
--- src/booking.rt:27:43
 slice-read-wrapping-sub-u64 : tie.Need-slice-read-wrapping-sub-u64
 slice-read-wrapping-sub-u64 c = search needs
 
--- src/booking.rt:27:9
 wrapping-sub-u64-requires : tie.Need-wrapping-sub-u64-requires
 wrapping-sub-u64-requires c κs = search needs
 
--- src/booking.rt:28:42
 mul-wrapping-add-u64 : tie.Need-mul-wrapping-add-u64
 mul-wrapping-add-u64 c = search needs
 
--- src/booking.rt:28:42
 slice-read-wrapping-add-u64 : tie.Need-slice-read-wrapping-add-u64
 slice-read-wrapping-add-u64 c = search needs
 
--- src/booking.rt:28:9
 wrapping-add-u64-requires : tie.Need-wrapping-add-u64-requires
 wrapping-add-u64-requires c κs = search needs
 
--- src/booking.rt:29:34
 mul-marked : tie.Need-mul-marked
 mul-marked c = search needs
 
--- src/booking.rt:29:34
 slice-read-marked : tie.Need-slice-read-marked
 slice-read-marked c = search needs
 
--- src/booking.rt:29:9
 marked-requires : tie.Need-marked-requires
 marked-requires c κs = search needs
 
--- src/booking.rt:30:5
 mul-book : tie.Need-mul-book
 mul-book c = search needs
 
--- src/booking.rt:30:5
 slice-write-book : tie.Need-slice-write-book
 slice-write-book c = search needs
 
--- src/booking.rt:31:5
 mul-book-2 : tie.Need-mul-book-2
 mul-book-2 c = search needs
 
--- src/booking.rt:31:5
 slice-write-book-2 : tie.Need-slice-write-book-2
 slice-write-book-2 c = simp length-set (omega arith)
 
--- src/booking.rt:32:5
 mul-book-3 : tie.Need-mul-book-3
 mul-book-3 c = search needs
 
--- src/booking.rt:32:5
 slice-write-book-3 : tie.Need-slice-write-book-3
 slice-write-book-3 c = simp length-set (omega arith)
 
--- src/booking.rt:19:1
 same-length : tie.Need-same-length
 same-length c = search needs
 
--- src/booking.rt:19:1
 returns : tie.Need-returns
 returns c =
     let a = c .before .before .before .before .before .before .before .args in

@@ -1,61 +1,48 @@
-use mathlib.Core.Path.{_≡_, refl, sym, _∙_, ap}
-use Prim.Native.Nat.{ℕ, _≤_, _<_, _-_, _+_, _*_}
+-- `runs::listing::write_line` meets its contract. Assumes nothing.
+use Prim.Native.Nat.{_-_}
 use native.Mathlib.Omega.{arith}
-use lib.ListN.{length, getD, length-set}
+use lib.ListN.{length-set}
 use borrow.Author.Needs.{needs}
 use Rattle.runs.proofs.ListingLaws.{lined-none, lined-some}
 use Rattle.runs.proofs.listing.write_line.Statement.{statement}
 use Rattle.runs.proofs.listing.write_line.Tie as tie
 
--- src/listing.rt:40:9
 returns : tie.Need-returns
 returns c = lined-none _ _ _ _ (c .if1 .taken)
 
--- src/listing.rt:42:14
 mul-at : tie.Need-mul-at
 mul-at c = omega (arith, c .before .pre .places (omega arith))
 
--- src/listing.rt:43:5
 mul-lines : tie.Need-mul-lines
 mul-lines c = omega (arith, c .before .pre .places (omega arith))
 
--- src/listing.rt:43:5
 slice-write-lines : tie.Need-slice-write-lines
 slice-write-lines c = omega (arith, c .before .pre .places (omega arith))
 
--- src/listing.rt:44:11
 add-lines : tie.Need-add-lines
 add-lines c = omega (arith, c .before .pre .places (omega arith))
 
--- src/listing.rt:44:5
 mul-lines-2 : tie.Need-mul-lines-2
 mul-lines-2 c = omega (arith, c .before .pre .places (omega arith))
 
--- src/listing.rt:44:5
 slice-write-lines-2 : tie.Need-slice-write-lines-2
 slice-write-lines-2 c = simp length-set (omega (arith, c .before .pre .places (omega arith)))
 
--- src/listing.rt:45:11
 add-lines-2 : tie.Need-add-lines-2
 add-lines-2 c = omega (arith, c .before .pre .places (omega arith))
 
--- src/listing.rt:45:5
 mul-lines-3 : tie.Need-mul-lines-3
 mul-lines-3 c = omega (arith, c .before .pre .places (omega arith))
 
--- src/listing.rt:45:5
 slice-write-lines-3 : tie.Need-slice-write-lines-3
 slice-write-lines-3 c = simp length-set (omega (arith, c .before .pre .places (omega arith)))
 
--- src/listing.rt:46:5
 add-result : tie.Need-add-result
 add-result c = omega (arith, c .before .pre .places (omega arith))
 
--- src/listing.rt:35:1
 same-length : tie.Need-same-length
 same-length c = search needs
 
--- src/listing.rt:35:1
 returns-2 : tie.Need-returns-2
 returns-2 c = lined-some _ _ _ _ (c .if1 .left) (c .before .pre)
 

@@ -1,101 +1,78 @@
-use mathlib.Core.Path.{_≡_, refl, sym, _∙_, ap}
-use Prim.Native.Nat.{ℕ, _≤_, _<_, _-_, _+_, _*_}
+-- `runs::listing::write_match` meets its contract. Assumes nothing.
+use Prim.Native.Nat.{_-_}
 use native.Mathlib.Omega.{arith}
-use lib.ListN.{length, getD, length-set}
+use lib.ListN.{length-set}
 use borrow.Author.Needs.{needs}
 use Rattle.runs.proofs.ListingLaws.{seven-written}
 use Rattle.runs.proofs.listing.write_match.Statement.{statement}
 use Rattle.runs.proofs.listing.write_match.Tie as tie
 
--- src/listing.rt:22:14
 mul-at : tie.Need-mul-at
 mul-at c = search needs
 
--- src/listing.rt:25:5
 mul-matches : tie.Need-mul-matches
 mul-matches c = search needs
 
--- src/listing.rt:25:5
 slice-write-matches : tie.Need-slice-write-matches
 slice-write-matches c = search needs
 
--- src/listing.rt:26:13
 add-matches : tie.Need-add-matches
 add-matches c = search needs
 
--- src/listing.rt:26:5
 mul-matches-2 : tie.Need-mul-matches-2
 mul-matches-2 c = search needs
 
--- src/listing.rt:26:5
 slice-write-matches-2 : tie.Need-slice-write-matches-2
 slice-write-matches-2 c = simp length-set (omega arith)
 
--- src/listing.rt:27:13
 add-matches-2 : tie.Need-add-matches-2
 add-matches-2 c = search needs
 
--- src/listing.rt:27:5
 mul-matches-3 : tie.Need-mul-matches-3
 mul-matches-3 c = search needs
 
--- src/listing.rt:27:5
 slice-write-matches-3 : tie.Need-slice-write-matches-3
 slice-write-matches-3 c = simp length-set (omega arith)
 
--- src/listing.rt:28:13
 add-matches-3 : tie.Need-add-matches-3
 add-matches-3 c = search needs
 
--- src/listing.rt:28:5
 mul-matches-4 : tie.Need-mul-matches-4
 mul-matches-4 c = search needs
 
--- src/listing.rt:28:5
 slice-write-matches-4 : tie.Need-slice-write-matches-4
 slice-write-matches-4 c = simp length-set (omega arith)
 
--- src/listing.rt:29:13
 add-matches-4 : tie.Need-add-matches-4
 add-matches-4 c = search needs
 
--- src/listing.rt:29:5
 mul-matches-5 : tie.Need-mul-matches-5
 mul-matches-5 c = search needs
 
--- src/listing.rt:29:5
 slice-write-matches-5 : tie.Need-slice-write-matches-5
 slice-write-matches-5 c = simp length-set (omega arith)
 
--- src/listing.rt:30:13
 add-matches-5 : tie.Need-add-matches-5
 add-matches-5 c = search needs
 
--- src/listing.rt:30:5
 mul-matches-6 : tie.Need-mul-matches-6
 mul-matches-6 c = search needs
 
--- src/listing.rt:30:5
 slice-write-matches-6 : tie.Need-slice-write-matches-6
 slice-write-matches-6 c = simp length-set (omega arith)
 
--- src/listing.rt:31:13
 add-matches-6 : tie.Need-add-matches-6
 add-matches-6 c = search needs
 
--- src/listing.rt:31:5
 mul-matches-7 : tie.Need-mul-matches-7
 mul-matches-7 c = search needs
 
--- src/listing.rt:31:5
 slice-write-matches-7 : tie.Need-slice-write-matches-7
 slice-write-matches-7 c = simp length-set (omega arith)
 
--- src/listing.rt:10:1
 same-length : tie.Need-same-length
 same-length c = search needs
 
--- src/listing.rt:10:1
 returns : tie.Need-returns
 returns c =
     let a = c .before .before .args in

@@ -1,75 +1,59 @@
-use mathlib.Core.Path.{_≡_, refl, sym, _∙_, ap}
-use Prim.Native.Nat.{ℕ, _≤_, _<_, _-_, _+_, _*_}
+-- `runs::matched::follows` meets its contract. Assumes nothing.
+use mathlib.Core.Path.{refl, sym}
+use Prim.Native.Nat.{_-_}
 use native.Mathlib.Omega.{arith}
-use lib.ListN.{length, getD}
 use borrow.Author.Needs.{needs}
-use mathlib.Core.Bool.{true, false}
+use mathlib.Core.Bool.{true}
 use borrow.Author.Tests.{eqb-true}
 use Rattle.lists.proofs.TestLaws.{both-ways}
 use Rattle.runs.proofs.matched.follows.Statement.{statement}
 use Rattle.runs.proofs.matched.follows.Tie as tie
 
--- src/matched.rt:50:9
 returns : tie.Need-returns
 returns c = λ e. both-ways true refl (sym e)
 
--- src/matched.rt:52:16
 mul-here : tie.Need-mul-here
 mul-here c = search needs
 
--- src/matched.rt:53:21
 sub-last : tie.Need-sub-last
 sub-last c = search needs
 
--- src/matched.rt:53:16
 mul-last : tie.Need-mul-last
 mul-last c = search needs
 
--- src/matched.rt:54:8
 mul-if2 : tie.Need-mul-if2
 mul-if2 c = search needs
 
--- src/matched.rt:54:8
 element-copy-out-if2 : tie.Need-element-copy-out-if2
 element-copy-out-if2 c = search needs
 
--- src/matched.rt:54:23
 mul-if2-2 : tie.Need-mul-if2-2
 mul-if2-2 c = search needs
 
--- src/matched.rt:54:23
 element-copy-out-if2-2 : tie.Need-element-copy-out-if2-2
 element-copy-out-if2-2 c = search needs
 
--- src/matched.rt:55:9
 returns-2 : tie.Need-returns-2
 returns-2 c = λ e. both-ways true refl (sym e)
 
--- src/matched.rt:57:11
 add-result : tie.Need-add-result
 add-result c = search needs
 
--- src/matched.rt:57:5
 mul-result : tie.Need-mul-result
 mul-result c = search needs
 
--- src/matched.rt:57:5
 element-copy-out-result : tie.Need-element-copy-out-result
 element-copy-out-result c = search needs
 
--- src/matched.rt:57:30
 add-result-2 : tie.Need-add-result-2
 add-result-2 c = search needs
 
--- src/matched.rt:57:24
 mul-result-2 : tie.Need-mul-result-2
 mul-result-2 c = search needs
 
--- src/matched.rt:57:24
 element-copy-out-result-2 : tie.Need-element-copy-out-result-2
 element-copy-out-result-2 c = search needs
 
--- src/matched.rt:45:1
 returns-3 : tie.Need-returns-3
 returns-3 c = λ e. record { second = omega (arith, c .before .before .before .before .before .if1 .left); deliverer = c .before .before .if2 .left; sort = eqb-true _ _ e }
 

@@ -1,41 +1,32 @@
-use mathlib.Core.Path.{_≡_, refl, sym, _∙_, ap}
-use Prim.Native.Nat.{ℕ, _≤_, _<_, _-_, _+_, _*_}
-use native.Mathlib.Omega.{arith}
-use lib.ListN.{length, getD}
+-- `runs::matched::plan_basket` meets its contract. Assumes nothing.
+use mathlib.Core.Path.{sym}
+use Prim.Native.Nat.{_-_}
 use borrow.Author.Needs.{needs}
 use lib.Seq.{length-take-le}
 use Rattle.runs.proofs.matched.plan_basket.Statement.{statement}
 use Rattle.runs.proofs.matched.plan_basket.Tie as tie
 
--- src/matched.rt:45:24
 shared-slice-read-participants : tie.Need-shared-slice-read-participants
 shared-slice-read-participants c = search needs
 
--- src/matched.rt:52:9
 array-borrow-prefix-owed : tie.Need-array-borrow-prefix-owed
 array-borrow-prefix-owed c = search needs
 
--- src/matched.rt:52:9
 slice-aggregate-plan-rows : tie.Need-slice-aggregate-plan-rows
 slice-aggregate-plan-rows c = sym (length-take-le _ _ (c .before .before .before .before .before .pre .sized .participants))
 
--- src/matched.rt:53:9
 array-borrow-prefix-due : tie.Need-array-borrow-prefix-due
 array-borrow-prefix-due c = search needs
 
--- src/matched.rt:53:9
 slice-aggregate-plan-rows-2 : tie.Need-slice-aggregate-plan-rows-2
 slice-aggregate-plan-rows-2 c = sym (length-take-le _ _ (c .before .before .before .before .before .before .pre .sized .participants))
 
--- src/matched.rt:48:5
 plan-rows-requires : tie.Need-plan-rows-requires
 plan-rows-requires c κs = record { plannable = c .before .before .before .before .before .before .before .pre; owing = length-take-le _ _ (c .before .before .before .before .before .before .before .pre .sized .participants); owned = length-take-le _ _ (c .before .before .before .before .before .before .before .pre .sized .participants) }
 
--- src/matched.rt:41:1
 same-length : tie.Need-same-length
 same-length c = search needs
 
--- src/matched.rt:41:1
 returns : tie.Need-returns
 returns c = search needs
 

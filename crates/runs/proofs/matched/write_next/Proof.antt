@@ -1,121 +1,93 @@
-use mathlib.Core.Path.{_≡_, refl, sym, _∙_, ap}
-use Prim.Native.Nat.{ℕ, _≤_, _<_, _-_, _+_, _*_}
+-- `runs::matched::write_next` meets its contract. Assumes nothing.
+use mathlib.Core.Path.{refl, _∙_}
+use Prim.Native.Nat.{_-_}
 use native.Mathlib.Omega.{arith}
-use lib.ListN.{length, getD}
 use borrow.Author.Needs.{needs}
 use lib.ListN.{length-set}
 use Rattle.runs.proofs.matched.write_next.Statement.{statement}
 use Rattle.runs.proofs.matched.write_next.Tie as tie
 
--- src/matched.rt:161:27
 mul-deliverer : tie.Need-mul-deliverer
 mul-deliverer c = search needs
 
--- src/matched.rt:161:21
 mul-deliverer-2 : tie.Need-mul-deliverer-2
 mul-deliverer-2 c = search needs
 
--- src/matched.rt:161:21
 element-copy-out-deliverer : tie.Need-element-copy-out-deliverer
 element-copy-out-deliverer c = search needs
 
--- src/matched.rt:162:26
 mul-receiver : tie.Need-mul-receiver
 mul-receiver c = search needs
 
--- src/matched.rt:162:26
 add-receiver : tie.Need-add-receiver
 add-receiver c = search needs
 
--- src/matched.rt:162:20
 mul-receiver-2 : tie.Need-mul-receiver-2
 mul-receiver-2 c = search needs
 
--- src/matched.rt:162:20
 element-copy-out-receiver : tie.Need-element-copy-out-receiver
 element-copy-out-receiver c = search needs
 
--- src/matched.rt:163:24
 mul-amount : tie.Need-mul-amount
 mul-amount c = search needs
 
--- src/matched.rt:163:24
 add-amount : tie.Need-add-amount
 add-amount c = search needs
 
--- src/matched.rt:163:18
 mul-amount-2 : tie.Need-mul-amount-2
 mul-amount-2 c = search needs
 
--- src/matched.rt:163:18
 element-copy-out-amount : tie.Need-element-copy-out-amount
 element-copy-out-amount c = search needs
 
--- src/matched.rt:167:5
 use-lots-requires : tie.Need-use-lots-requires
 use-lots-requires c κs = search needs
 
--- src/matched.rt:168:20
 mul-lots : tie.Need-mul-lots
 mul-lots c = search needs
 
--- src/matched.rt:168:20
 slice-read-lots : tie.Need-slice-read-lots
 slice-read-lots c = search needs
 
--- src/matched.rt:168:20
 add-lots : tie.Need-add-lots
 add-lots c = search needs
 
--- src/matched.rt:168:5
 mul-lots-2 : tie.Need-mul-lots-2
 mul-lots-2 c = search needs
 
--- src/matched.rt:168:5
 slice-write-lots : tie.Need-slice-write-lots
 slice-write-lots c = search needs
 
--- src/matched.rt:169:5
 write-match-requires : tie.Need-write-match-requires
 write-match-requires c κs = search needs
 
--- src/matched.rt:178:9
 write-lines-requires : tie.Need-write-lines-requires
 write-lines-requires c κs = search needs
 
--- src/matched.rt:179:5
 move-yen-requires : tie.Need-move-yen-requires
 move-yen-requires c κs = search needs
 
--- src/matched.rt:186:5
 move-lots-requires : tie.Need-move-lots-requires
 move-lots-requires c κs = record { cells = c .before .before .before .before .move-yen .ensures .size ∙ c .before .before .before .before .before .before .before .before .before .before .before .before .before .before .before .before .before .before .before .before .before .before .before .before .before .before .before .before .before .before .before .before .pre .book; deliverer = c .before .before .before .before .before .before .before .before .before .before .before .before .before .before .before .before .before .before .before .before .before .before .before .before .before .before .before .before .before .before .before .before .pre .deliverer; receiver = c .before .before .before .before .before .before .before .before .before .before .before .before .before .before .before .before .before .before .before .before .before .before .before .before .before .before .before .before .before .before .before .before .pre .receiver; apart = c .before .before .before .before .before .before .before .before .before .before .before .before .before .before .before .before .before .before .before .before .before .before .before .before .before .before .before .before .before .before .before .before .pre .apart; few = simp length-set (c .before .before .before .before .before .before .before .before .before .before .before .before .before .before .before .before .before .before .before .before .before .before .before .before .before .before .before .before .before .before .before .before .pre .few) }
 
--- src/matched.rt:188:18
 add-t23 : tie.Need-add-t23
 add-t23 c = omega (arith, c .before .before .before .before .before .before .before .before .before .before .before .before .before .before .before .before .before .before .before .before .before .before .before .before .before .before .before .before .before .before .before .before .before .before .before .before .pre .match-few)
 
--- src/matched.rt:145:1
 same-length : tie.Need-same-length
 same-length c = search needs
 
--- src/matched.rt:145:1
 same-length-2 : tie.Need-same-length-2
 same-length-2 c = search needs
 
--- src/matched.rt:145:1
 same-length-3 : tie.Need-same-length-3
 same-length-3 c = search needs
 
--- src/matched.rt:145:1
 same-length-4 : tie.Need-same-length-4
 same-length-4 c = search needs
 
--- src/matched.rt:145:1
 same-length-5 : tie.Need-same-length-5
 same-length-5 c = search needs
 
--- src/matched.rt:145:1
 returns : tie.Need-returns
 returns c = record {
   gone = c .before .before .before .before .before .before .before .before .before .before .before .before .before .before .before .before .before .before .before .before .before .before .before .use-lots .ensures;

@@ -1,10 +1,8 @@
-use mathlib.Core.Path.{_≡_, refl, sym, _∙_, ap}
-use Prim.Native.Nat.{ℕ, _≤_, _<_, _-_, _+_, _*_}
+-- `runs::rows::add` meets its contract. Assumes nothing.
+use mathlib.Core.Path.{_≡_}
+use Prim.Native.Nat.{_-_, _+_}
 use native.Mathlib.Omega.{arith}
 use lib.ListN.{length, getD}
-use borrow.Author.Needs.{needs}
-use Rattle.rule.specs.Layout.{plus, minus}
-use Rattle.runs.specs.Rows.{afterDelivery, afterReceipt}
 use Rattle.runs.proofs.RowLaws.{Changed, changed-none, changed-more, changed-all}
 use Rattle.runs.proofs.rows.add.Statement.{statement}
 use Rattle.runs.proofs.rows.add.Tie as tie
@@ -15,57 +13,44 @@ Inv-loop row₀ lots i₀ i-end row i = Changed (λ i c. c ≡ getD row₀ i 0 +
 abbrev μ-loop : tie.MeasureT-loop
 μ-loop row₀ lots i₀ i-end row i = length row₀ - i
 
--- src/rows.rt:37:5
 loop-holds : tie.Need-loop-holds Inv-loop μ-loop
 loop-holds c = changed-none _ _
 
--- src/rows.rt:38:18
 mul-row : tie.Need-mul-row Inv-loop μ-loop
 mul-row c = omega arith
 
--- src/rows.rt:38:18
 slice-read-row : tie.Need-slice-read-row Inv-loop μ-loop
 slice-read-row c = omega arith
 
--- src/rows.rt:38:27
 mul-row-2 : tie.Need-mul-row-2 Inv-loop μ-loop
 mul-row-2 c = omega arith
 
--- src/rows.rt:38:27
 shared-slice-read-row : tie.Need-shared-slice-read-row Inv-loop μ-loop
 shared-slice-read-row c = omega arith
 
--- src/rows.rt:38:18
 add-row : tie.Need-add-row Inv-loop μ-loop
 add-row c = omega (arith, c .before .before .before .before .pre .small (c .before .before .before .loop .i) (omega arith), c .before .before .before .loop .inv .rest (c .before .before .before .loop .i) (omega arith))
 
--- src/rows.rt:38:9
 mul-row-3 : tie.Need-mul-row-3 Inv-loop μ-loop
 mul-row-3 c = omega arith
 
--- src/rows.rt:38:9
 slice-write-row : tie.Need-slice-write-row Inv-loop μ-loop
 slice-write-row c = omega arith
 
--- src/rows.rt:37:9
 add-i : tie.Need-add-i Inv-loop μ-loop
 add-i c = omega arith
 
--- src/rows.rt:37:5
 loop-less : tie.Need-loop-less Inv-loop μ-loop
 loop-less c = omega arith
 
--- src/rows.rt:37:5
 loop-again : tie.Need-loop-again Inv-loop μ-loop
 loop-again c =
     let w = c .before .before .before .loop in
     changed-more _ _ (omega arith) (omega (arith, w .inv .rest (w .i) (omega arith))) (w .inv)
 
--- src/rows.rt:33:1
 same-length : tie.Need-same-length Inv-loop μ-loop
 same-length c = c .before .loop .inv .size
 
--- src/rows.rt:33:1
 returns : tie.Need-returns Inv-loop μ-loop
 returns c = changed-all _ (omega arith) (c .before .loop .inv)
 

@@ -1,14 +1,12 @@
-use mathlib.Core.Path.{_≡_, refl, sym, _∙_, ap}
-use Prim.Native.Nat.{ℕ, _≤_, _<_, _-_, _+_, _*_}
+-- `runs::rows::deliver` meets its contract. Assumes nothing.
+use Prim.Native.Nat.{_-_}
 use native.Mathlib.Omega.{arith}
-use lib.ListN.{length, getD}
+use lib.ListN.{length}
 use borrow.Author.Needs.{needs}
-use Rattle.rule.specs.Layout.{plus, minus}
-use Rattle.runs.specs.Rows.{afterDelivery, afterReceipt}
+use Rattle.runs.specs.Rows.{afterDelivery}
 use Rattle.runs.proofs.RowLaws.{Changed, changed-none, changed-more, changed-all, delivered-cell}
 use Rattle.runs.proofs.rows.deliver.Statement.{statement}
 use Rattle.runs.proofs.rows.deliver.Tie as tie
-use Rattle.std.proofs.num.wrapping_add_u64.Reads as wrapping-add-u64-reads
 
 abbrev Inv-loop : tie.InvT-loop
 Inv-loop row₀ lots i₀ i-end row i = Changed (afterDelivery row₀ lots) row₀ row i
@@ -16,57 +14,44 @@ Inv-loop row₀ lots i₀ i-end row i = Changed (afterDelivery row₀ lots) row�
 abbrev μ-loop : tie.MeasureT-loop
 μ-loop row₀ lots i₀ i-end row i = length row₀ - i
 
--- src/rows.rt:47:5
 loop-holds : tie.Need-loop-holds Inv-loop μ-loop
 loop-holds c = changed-none _ _
 
--- src/rows.rt:48:48
 mul-wrapping-add-u64 : tie.Need-mul-wrapping-add-u64 Inv-loop μ-loop
 mul-wrapping-add-u64 c = omega arith
 
--- src/rows.rt:48:48
 slice-read-wrapping-add-u64 : tie.Need-slice-read-wrapping-add-u64 Inv-loop μ-loop
 slice-read-wrapping-add-u64 c = omega arith
 
--- src/rows.rt:48:56
 mul-wrapping-add-u64-2 : tie.Need-mul-wrapping-add-u64-2 Inv-loop μ-loop
 mul-wrapping-add-u64-2 c = omega arith
 
--- src/rows.rt:48:56
 shared-slice-read-wrapping-add-u64 : tie.Need-shared-slice-read-wrapping-add-u64 Inv-loop μ-loop
 shared-slice-read-wrapping-add-u64 c = omega arith
 
--- src/rows.rt:48:13
 wrapping-add-u64-requires : tie.Need-wrapping-add-u64-requires Inv-loop μ-loop
 wrapping-add-u64-requires c κs = search needs
 
--- src/rows.rt:49:9
 mul-row : tie.Need-mul-row Inv-loop μ-loop
 mul-row c = omega arith
 
--- src/rows.rt:49:9
 slice-write-row : tie.Need-slice-write-row Inv-loop μ-loop
 slice-write-row c = omega arith
 
--- src/rows.rt:47:9
 add-i : tie.Need-add-i Inv-loop μ-loop
 add-i c = omega arith
 
--- src/rows.rt:47:5
 loop-less : tie.Need-loop-less Inv-loop μ-loop
 loop-less c = omega arith
 
--- src/rows.rt:47:5
 loop-again : tie.Need-loop-again Inv-loop μ-loop
 loop-again c =
     let w = c .before .before .before .before .loop in
     changed-more _ _ (omega arith) (delivered-cell _ (c .wrapping-add-u64 .ensures) (w .inv .rest (w .i) (omega arith))) (w .inv)
 
--- src/rows.rt:43:1
 same-length : tie.Need-same-length Inv-loop μ-loop
 same-length c = c .before .loop .inv .size
 
--- src/rows.rt:43:1
 returns : tie.Need-returns Inv-loop μ-loop
 returns c = changed-all _ (omega arith) (c .before .loop .inv)
 

@@ -1,8 +1,8 @@
-use mathlib.Core.Path.{_≡_, refl, sym, _∙_, ap}
-use Prim.Native.Nat.{ℕ, _≤_, _<_, _-_, _+_, _*_}
+-- `runs::rows::load` meets its contract. Assumes nothing.
+use mathlib.Core.Path.{_≡_, refl}
+use Prim.Native.Nat.{_-_, _+_}
 use native.Mathlib.Omega.{arith}
-use lib.ListN.{length, getD}
-use borrow.Author.Needs.{needs}
+use lib.ListN.{getD}
 use Rattle.runs.proofs.RowLaws.{Changed, changed-none, changed-more, loaded}
 use Rattle.runs.proofs.rows.load.Statement.{statement}
 use Rattle.runs.proofs.rows.load.Tie as tie
@@ -13,43 +13,33 @@ Inv-loop row₀ n source from i₀ row i = Changed (λ j c. c ≡ getD source (f
 abbrev μ-loop : tie.MeasureT-loop
 μ-loop row₀ n source from i₀ row i = n - i
 
--- src/rows.rt:15:5
 loop-holds : tie.Need-loop-holds Inv-loop μ-loop
 loop-holds c = changed-none _ _
 
--- src/rows.rt:16:25
 add-row : tie.Need-add-row Inv-loop μ-loop
 add-row c = omega arith
 
--- src/rows.rt:16:18
 mul-row : tie.Need-mul-row Inv-loop μ-loop
 mul-row c = omega arith
 
--- src/rows.rt:16:18
 shared-slice-read-row : tie.Need-shared-slice-read-row Inv-loop μ-loop
 shared-slice-read-row c = omega arith
 
--- src/rows.rt:16:9
 mul-row-2 : tie.Need-mul-row-2 Inv-loop μ-loop
 mul-row-2 c = omega arith
 
--- src/rows.rt:16:9
 element-write-row : tie.Need-element-write-row Inv-loop μ-loop
 element-write-row c = omega arith
 
--- src/rows.rt:15:9
 add-i : tie.Need-add-i Inv-loop μ-loop
 add-i c = omega arith
 
--- src/rows.rt:15:5
 loop-less : tie.Need-loop-less Inv-loop μ-loop
 loop-less c = omega arith
 
--- src/rows.rt:15:5
 loop-again : tie.Need-loop-again Inv-loop μ-loop
 loop-again c = changed-more _ _ (omega (arith, c .before .before .loop .inv .size)) refl (c .before .before .loop .inv)
 
--- src/rows.rt:11:1
 returns : tie.Need-returns Inv-loop μ-loop
 returns c = loaded (c .before .before .pre .wide) (c .loop-test .left) (c .before .loop .inv)
 

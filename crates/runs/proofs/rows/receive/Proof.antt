@@ -1,10 +1,9 @@
-use mathlib.Core.Path.{_≡_, refl, sym, _∙_, ap}
-use Prim.Native.Nat.{ℕ, _≤_, _<_, _-_, _+_, _*_}
+-- `runs::rows::receive` meets its contract. Assumes nothing.
+use Prim.Native.Nat.{_-_}
 use native.Mathlib.Omega.{arith}
 use lib.ListN.{length, getD}
 use borrow.Author.Needs.{needs}
-use Rattle.rule.specs.Layout.{plus, minus}
-use Rattle.runs.specs.Rows.{afterDelivery, afterReceipt}
+use Rattle.runs.specs.Rows.{afterReceipt}
 use Rattle.runs.proofs.RowLaws.{Changed, changed-none, changed-more, changed-all}
 use Rattle.runs.proofs.RowLaws.{received-cell}
 use Rattle.runs.proofs.rows.receive.Statement.{statement}
@@ -16,47 +15,36 @@ Inv-loop row₀ lots i₀ i-end row i = Changed (afterReceipt row₀ lots) row�
 abbrev μ-loop : tie.MeasureT-loop
 μ-loop row₀ lots i₀ i-end row i = length row₀ - i
 
--- src/rows.rt:58:5
 loop-holds : tie.Need-loop-holds Inv-loop μ-loop
 loop-holds c = changed-none _ _
 
--- src/rows.rt:59:48
 mul-wrapping-sub-u64 : tie.Need-mul-wrapping-sub-u64 Inv-loop μ-loop
 mul-wrapping-sub-u64 c = omega arith
 
--- src/rows.rt:59:48
 slice-read-wrapping-sub-u64 : tie.Need-slice-read-wrapping-sub-u64 Inv-loop μ-loop
 slice-read-wrapping-sub-u64 c = omega arith
 
--- src/rows.rt:59:56
 mul-wrapping-sub-u64-2 : tie.Need-mul-wrapping-sub-u64-2 Inv-loop μ-loop
 mul-wrapping-sub-u64-2 c = omega arith
 
--- src/rows.rt:59:56
 shared-slice-read-wrapping-sub-u64 : tie.Need-shared-slice-read-wrapping-sub-u64 Inv-loop μ-loop
 shared-slice-read-wrapping-sub-u64 c = omega arith
 
--- src/rows.rt:59:13
 wrapping-sub-u64-requires : tie.Need-wrapping-sub-u64-requires Inv-loop μ-loop
 wrapping-sub-u64-requires c κs = search needs
 
--- src/rows.rt:60:9
 mul-row : tie.Need-mul-row Inv-loop μ-loop
 mul-row c = omega arith
 
--- src/rows.rt:60:9
 slice-write-row : tie.Need-slice-write-row Inv-loop μ-loop
 slice-write-row c = omega arith
 
--- src/rows.rt:58:9
 add-i : tie.Need-add-i Inv-loop μ-loop
 add-i c = omega arith
 
--- src/rows.rt:58:5
 loop-less : tie.Need-loop-less Inv-loop μ-loop
 loop-less c = omega arith
 
--- src/rows.rt:58:5
 loop-again : tie.Need-loop-again Inv-loop μ-loop
 loop-again c =
     let w = c .before .before .before .before .loop in
@@ -64,11 +52,9 @@ loop-again c =
     changed-more _ _ (omega arith)
     (received-cell (getD (w .row) (w .i) 0) _ (getD l (w .i) 0) _ (omega (arith, c .before .before .slice-known2 .given (w .i))) (omega (arith, c .before .shared-slice-known2 .given (w .i))) (omega arith) (c .wrapping-sub-u64 .ensures) (w .inv .rest (w .i) (omega arith))) (w .inv)
 
--- src/rows.rt:54:1
 same-length : tie.Need-same-length Inv-loop μ-loop
 same-length c = c .before .loop .inv .size
 
--- src/rows.rt:54:1
 returns : tie.Need-returns Inv-loop μ-loop
 returns c = changed-all _ (omega arith) (c .before .loop .inv)
 

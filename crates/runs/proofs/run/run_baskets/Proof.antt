@@ -1,8 +1,7 @@
-use mathlib.Core.Path.{_≡_, refl, sym, _∙_, ap}
-use Prim.Native.Nat.{ℕ, _≤_, _<_, _-_, _+_, _*_}
+-- `runs::run::run_baskets` meets its contract. Assumes nothing.
+use mathlib.Core.Path.{sym}
+use Prim.Native.Nat.{_-_}
 use native.Mathlib.Omega.{arith}
-use lib.ListN.{length, getD}
-use borrow.Author.Needs.{needs}
 use Rattle.runs.proofs.RanLaws.{Baskets, baskets-none, basket-asked, baskets-more, baskets-all, baskets-book}
 use Rattle.runs.proofs.run.run_baskets.Statement.{statement}
 use Rattle.runs.proofs.run.run_baskets.Tie as tie
@@ -14,43 +13,33 @@ Inv-loop book₀ draw rates allocable matches₀ lines₀ used₀ done₀ k₀ b
 abbrev μ-loop : tie.MeasureT-loop
 μ-loop book₀ draw rates allocable matches₀ lines₀ used₀ done₀ k₀ book matches lines used done k = 7 - k
 
--- src/run.rt:27:5
 loop-holds : tie.Need-loop-holds Inv-loop μ-loop
 loop-holds c = baskets-none _ _ _ _ _ _ (c .before .before .before .before .before .pre)
 
--- src/run.rt:34:13
 slice-aggregate-run-basket : tie.Need-slice-aggregate-run-basket Inv-loop μ-loop
 slice-aggregate-run-basket c = sym (c .before .before .before .loop .inv .running .places)
 
--- src/run.rt:28:9
 run-basket-requires : tie.Need-run-basket-requires Inv-loop μ-loop
 run-basket-requires c κs = basket-asked _ _ _ _ _ _ (c .before .before .before .before .before .before .before .before .before .before .before .pre) (c .before .before .before .before .before .loop .inv) (c .before .before .before .before .loop-test .taken)
 
--- src/run.rt:27:9
 add-k : tie.Need-add-k Inv-loop μ-loop
 add-k c = omega (arith, c .before .before .before .before .before .before .before .before .before .before .before .before .loop-test .taken)
 
--- src/run.rt:27:5
 loop-less : tie.Need-loop-less Inv-loop μ-loop
 loop-less c = omega (arith, c .before .before .before .before .before .before .before .before .before .before .before .before .loop-test .taken)
 
--- src/run.rt:27:5
 loop-again : tie.Need-loop-again Inv-loop μ-loop
 loop-again c = baskets-more _ _ _ _ _ _ (c .before .before .before .before .before .before .before .before .before .before .before .before .before .before .before .before .before .before .before .pre) (c .before .before .before .before .before .before .before .before .before .before .before .before .before .loop .inv) (c .before .before .before .before .before .before .before .before .before .before .before .before .loop-test .taken) (c .before .before .before .before .before .before .before .run-basket .ensures)
 
--- src/run.rt:11:1
 same-length : tie.Need-same-length Inv-loop μ-loop
 same-length c = baskets-book _ _ _ _ _ _ (c .before .before .before .before .before .before .before .pre) (c .before .loop .inv)
 
--- src/run.rt:11:1
 same-length-2 : tie.Need-same-length-2 Inv-loop μ-loop
 same-length-2 c = c .before .loop .inv .running .match-size
 
--- src/run.rt:11:1
 same-length-3 : tie.Need-same-length-3 Inv-loop μ-loop
 same-length-3 c = c .before .loop .inv .running .line-size
 
--- src/run.rt:11:1
 returns : tie.Need-returns Inv-loop μ-loop
 returns c = baskets-all _ _ _ _ _ _ (c .before .before .before .before .before .before .before .pre) (c .before .loop .inv) (c .loop-test .left)
 

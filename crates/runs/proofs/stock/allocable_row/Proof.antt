@@ -1,14 +1,14 @@
-use mathlib.Core.Path.{_≡_, refl, sym, _∙_, ap}
-use Prim.Native.Nat.{ℕ, _≤_, _<_, _-_, _+_, _*_}
+-- `runs::stock::allocable_row` meets its contract. Assumes nothing.
+use mathlib.Core.Path.{_≡_}
+use Prim.Native.Nat.{_-_}
 use native.Mathlib.Omega.{arith}
-use lib.ListN.{length, getD}
+use lib.ListN.{length}
 use borrow.Author.Needs.{needs}
 use Rattle.runs.proofs.RowLaws.{Changed, changed-none, changed-more, changed-all}
 use Rattle.runs.specs.Stock.{allocableIn}
 use Rattle.runs.proofs.StockLaws.{allocable-cell}
 use Rattle.runs.proofs.stock.allocable_row.Statement.{statement}
 use Rattle.runs.proofs.stock.allocable_row.Tie as tie
-use Rattle.baskets.proofs.allocable.Reads as allocable-reads
 
 abbrev Inv-loop : tie.InvT-loop
 Inv-loop book participant row₀ runs notices receipts i₀ i-end row i = Changed (λ j c. c ≡ allocableIn book participant j) row₀ row i
@@ -16,115 +16,87 @@ Inv-loop book participant row₀ runs notices receipts i₀ i-end row i = Change
 abbrev μ-loop : tie.MeasureT-loop
 μ-loop book participant row₀ runs notices receipts i₀ i-end row i = length row₀ - i
 
--- src/stock.rt:15:16
 shared-slice-read-runs : tie.Need-shared-slice-read-runs Inv-loop μ-loop
 shared-slice-read-runs c = omega arith
 
--- src/stock.rt:16:37
 mul-notices : tie.Need-mul-notices Inv-loop μ-loop
 mul-notices c = omega arith
 
--- src/stock.rt:16:19
 add-notices : tie.Need-add-notices Inv-loop μ-loop
 add-notices c = omega arith
 
--- src/stock.rt:17:39
 mul-receipts : tie.Need-mul-receipts Inv-loop μ-loop
 mul-receipts c = omega arith
 
--- src/stock.rt:17:20
 add-receipts : tie.Need-add-receipts Inv-loop μ-loop
 add-receipts c = omega arith
 
--- src/stock.rt:18:5
 loop-holds : tie.Need-loop-holds Inv-loop μ-loop
 loop-holds c = changed-none _ _
 
--- src/stock.rt:19:37
 mul-terms : tie.Need-mul-terms Inv-loop μ-loop
 mul-terms c = omega arith
 
--- src/stock.rt:19:21
 add-terms : tie.Need-add-terms Inv-loop μ-loop
 add-terms c = omega arith
 
--- src/stock.rt:22:18
 add-allocable : tie.Need-add-allocable Inv-loop μ-loop
 add-allocable c = omega arith
 
--- src/stock.rt:22:13
 mul-allocable : tie.Need-mul-allocable Inv-loop μ-loop
 mul-allocable c = omega arith
 
--- src/stock.rt:22:13
 shared-slice-read-allocable : tie.Need-shared-slice-read-allocable Inv-loop μ-loop
 shared-slice-read-allocable c = omega arith
 
--- src/stock.rt:23:18
 add-allocable-2 : tie.Need-add-allocable-2 Inv-loop μ-loop
 add-allocable-2 c = omega arith
 
--- src/stock.rt:23:13
 mul-allocable-2 : tie.Need-mul-allocable-2 Inv-loop μ-loop
 mul-allocable-2 c = omega arith
 
--- src/stock.rt:23:13
 shared-slice-read-allocable-2 : tie.Need-shared-slice-read-allocable-2 Inv-loop μ-loop
 shared-slice-read-allocable-2 c = omega arith
 
--- src/stock.rt:24:23
 add-t23 : tie.Need-add-t23 Inv-loop μ-loop
 add-t23 c = omega arith
 
--- src/stock.rt:24:18
 mul-t24 : tie.Need-mul-t24 Inv-loop μ-loop
 mul-t24 c = omega arith
 
--- src/stock.rt:24:18
 shared-slice-read-t26 : tie.Need-shared-slice-read-t26 Inv-loop μ-loop
 shared-slice-read-t26 c = omega arith
 
--- src/stock.rt:25:23
 add-t28 : tie.Need-add-t28 Inv-loop μ-loop
 add-t28 c = omega arith
 
--- src/stock.rt:25:18
 mul-t29 : tie.Need-mul-t29 Inv-loop μ-loop
 mul-t29 c = omega arith
 
--- src/stock.rt:25:18
 shared-slice-read-t31 : tie.Need-shared-slice-read-t31 Inv-loop μ-loop
 shared-slice-read-t31 c = omega arith
 
--- src/stock.rt:20:13
 allocable-requires : tie.Need-allocable-requires Inv-loop μ-loop
 allocable-requires c κs = search needs
 
--- src/stock.rt:27:9
 mul-row : tie.Need-mul-row Inv-loop μ-loop
 mul-row c = omega arith
 
--- src/stock.rt:27:9
 slice-write-row : tie.Need-slice-write-row Inv-loop μ-loop
 slice-write-row c = omega arith
 
--- src/stock.rt:18:9
 add-i : tie.Need-add-i Inv-loop μ-loop
 add-i c = omega arith
 
--- src/stock.rt:18:5
 loop-less : tie.Need-loop-less Inv-loop μ-loop
 loop-less c = omega arith
 
--- src/stock.rt:18:5
 loop-again : tie.Need-loop-again Inv-loop μ-loop
 loop-again c = changed-more _ _ (omega arith) (allocable-cell _ _ _ (c .allocable .ensures)) (c .before .before .before .before .before .before .loop .inv)
 
--- src/stock.rt:11:1
 same-length : tie.Need-same-length Inv-loop μ-loop
 same-length c = c .before .loop .inv .size
 
--- src/stock.rt:11:1
 returns : tie.Need-returns Inv-loop μ-loop
 returns c = changed-all _ (omega arith) (c .before .loop .inv)
 

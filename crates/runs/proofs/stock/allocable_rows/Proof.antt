@@ -1,14 +1,11 @@
-use mathlib.Core.Path.{_≡_, refl, sym, _∙_, ap}
-use Prim.Native.Nat.{ℕ, _≤_, _<_, _-_, _+_, _*_}
+-- `runs::stock::allocable_rows` meets its contract. Assumes nothing.
+use mathlib.Core.Path.{refl, sym, _∙_}
+use Prim.Native.Nat.{_-_}
 use native.Mathlib.Omega.{arith}
-use lib.ListN.{length, getD}
 use borrow.Author.Needs.{needs}
 use Rattle.runs.proofs.StockLaws.{AllocableTo, allocable-none, allocable-more, allocable-all}
 use Rattle.runs.proofs.stock.allocable_rows.Statement.{statement}
 use Rattle.runs.proofs.stock.allocable_rows.Tie as tie
-use Rattle.runs.proofs.stock.allocable_rows.Reads as reads
-use Rattle.runs.proofs.stock.allocable_rows.Lts as lts
-use Rattle.runs.proofs.stock.allocable_row.Reads as allocable-row-reads
 
 abbrev Inv-loop : tie.InvT-loop
 Inv-loop book cells₀ participants issues p₀ cells p = AllocableTo book cells p
@@ -16,65 +13,50 @@ Inv-loop book cells₀ participants issues p₀ cells p = AllocableTo book cells
 abbrev μ-loop : tie.MeasureT-loop
 μ-loop book cells₀ participants issues p₀ cells p = participants - p
 
--- src/stock.rt:36:24
 shared-slice-read-participants : tie.Need-shared-slice-read-participants Inv-loop μ-loop
 shared-slice-read-participants c = omega arith
 
--- src/stock.rt:37:18
 shared-slice-read-issues : tie.Need-shared-slice-read-issues Inv-loop μ-loop
 shared-slice-read-issues c = omega arith
 
--- src/stock.rt:38:5
 loop-holds : tie.Need-loop-holds Inv-loop μ-loop
 loop-holds c = allocable-none _ _ (c .before .before .before .before .pre .places)
 
--- src/stock.rt:39:18
 mul-at : tie.Need-mul-at Inv-loop μ-loop
 mul-at c = omega arith
 
--- src/stock.rt:40:19
 add-end : tie.Need-add-end Inv-loop μ-loop
 add-end c = omega arith
 
--- src/stock.rt:41:32
 mul-allocable-row : tie.Need-mul-allocable-row Inv-loop μ-loop
 mul-allocable-row c = omega arith
 
--- src/stock.rt:41:32
 sub-allocable-row : tie.Need-sub-allocable-row Inv-loop μ-loop
 sub-allocable-row c = omega arith
 
--- src/stock.rt:41:32
 part-allocable-row-start : tie.Need-part-allocable-row-start Inv-loop μ-loop
 part-allocable-row-start c = omega arith
 
--- src/stock.rt:41:32
 part-allocable-row-end : tie.Need-part-allocable-row-end Inv-loop μ-loop
 part-allocable-row-end c = omega arith
 
--- src/stock.rt:41:9
 allocable-row-requires : tie.Need-allocable-row-requires Inv-loop μ-loop
 allocable-row-requires c κs = search needs
 
--- src/stock.rt:38:9
 add-p : tie.Need-add-p Inv-loop μ-loop
 add-p c = omega arith
 
--- src/stock.rt:38:5
 loop-less : tie.Need-loop-less Inv-loop μ-loop
 loop-less c = omega arith
 
--- src/stock.rt:38:5
 loop-again : tie.Need-loop-again Inv-loop μ-loop
 loop-again c =
     let s = c .before .before .before .before .before .before .before .before .before .before .pre in
     allocable-more _ _ (omega (arith, s .participants, c .before .before .before .before .loop-test .taken)) (s .issues) refl (c .before .before .allocable-row .ensures) (c .before .before .before .before .before .loop .inv)
 
--- src/stock.rt:32:1
 same-length : tie.Need-same-length Inv-loop μ-loop
 same-length c = c .before .loop .inv .places ∙ sym (c .before .before .before .before .before .before .pre .places)
 
--- src/stock.rt:32:1
 returns : tie.Need-returns Inv-loop μ-loop
 returns c = allocable-all _ _ (c .loop-test .left) (c .before .loop .inv)
 

@@ -1,7 +1,8 @@
-use mathlib.Core.Path.{_≡_, refl, sym, _∙_, ap}
-use Prim.Native.Nat.{ℕ, _≤_, _<_, _-_, _+_, _*_}
+-- `runs::stock::mark_issues` meets its contract. Assumes nothing.
+use mathlib.Core.Path.{_≡_}
+use Prim.Native.Nat.{_-_}
 use native.Mathlib.Omega.{arith}
-use lib.ListN.{length, getD}
+use lib.ListN.{length}
 use borrow.Author.Needs.{needs}
 use Rattle.runs.proofs.RowLaws.{Changed, changed-none, changed-more, changed-all}
 use Rattle.runs.specs.Stock.{insideOf}
@@ -15,63 +16,48 @@ Inv-loop book basket row₀ kinds i₀ i-end row i = Changed (λ j c. c ≡ insi
 abbrev μ-loop : tie.MeasureT-loop
 μ-loop book basket row₀ kinds i₀ i-end row i = length row₀ - i
 
--- src/stock.rt:49:17
 kinds-of-requires : tie.Need-kinds-of-requires Inv-loop μ-loop
 kinds-of-requires c κs = search needs
 
--- src/stock.rt:50:5
 loop-holds : tie.Need-loop-holds Inv-loop μ-loop
 loop-holds c = changed-none _ _
 
--- src/stock.rt:51:69
 mul-is-among : tie.Need-mul-is-among Inv-loop μ-loop
 mul-is-among c = omega arith
 
--- src/stock.rt:51:53
 add-is-among : tie.Need-add-is-among Inv-loop μ-loop
 add-is-among c = omega arith
 
--- src/stock.rt:51:48
 mul-is-among-2 : tie.Need-mul-is-among-2 Inv-loop μ-loop
 mul-is-among-2 c = omega arith
 
--- src/stock.rt:51:48
 shared-slice-read-is-among : tie.Need-shared-slice-read-is-among Inv-loop μ-loop
 shared-slice-read-is-among c = omega arith
 
--- src/stock.rt:51:13
 is-among-requires : tie.Need-is-among-requires Inv-loop μ-loop
 is-among-requires c κs = search needs
 
--- src/stock.rt:52:13
 one-if-requires : tie.Need-one-if-requires Inv-loop μ-loop
 one-if-requires c κs = search needs
 
--- src/stock.rt:53:9
 mul-row : tie.Need-mul-row Inv-loop μ-loop
 mul-row c = omega arith
 
--- src/stock.rt:53:9
 slice-write-row : tie.Need-slice-write-row Inv-loop μ-loop
 slice-write-row c = omega arith
 
--- src/stock.rt:50:9
 add-i : tie.Need-add-i Inv-loop μ-loop
 add-i c = omega arith
 
--- src/stock.rt:50:5
 loop-less : tie.Need-loop-less Inv-loop μ-loop
 loop-less c = omega arith
 
--- src/stock.rt:50:5
 loop-again : tie.Need-loop-again Inv-loop μ-loop
 loop-again c = changed-more _ _ (omega arith) (inside-cell _ _ _ (λ t e. c .before .is-among .ensures _ t (c .before .before .before .before .before .before .kinds-of .ensures) e) (c .one-if .ensures)) (c .before .before .before .before .before .loop .inv)
 
--- src/stock.rt:45:1
 same-length : tie.Need-same-length Inv-loop μ-loop
 same-length c = c .before .loop .inv .size
 
--- src/stock.rt:45:1
 returns : tie.Need-returns Inv-loop μ-loop
 returns c = changed-all _ (omega arith) (c .before .loop .inv)
 

@@ -1,27 +1,19 @@
-use mathlib.Core.Path.{_≡_, refl, sym, _∙_, ap}
-use Prim.Native.Nat.{ℕ, _≤_, _<_, _-_, _+_, _*_}
-use native.Mathlib.Omega.{arith}
-use lib.ListN.{length, getD}
+-- `runs::stock::usable` meets its contract. Assumes nothing.
+use Prim.Native.Nat.{_-_}
 use borrow.Author.Needs.{needs}
 use Rattle.runs.proofs.StockLaws.{usable-outside, usable-left, usable-none}
 use Rattle.runs.proofs.stock.usable.Statement.{statement}
 use Rattle.runs.proofs.stock.usable.Tie as tie
-use Rattle.runs.proofs.stock.usable.Reads as reads
-use Rattle.runs.proofs.stock.usable.Lts as lts
 
--- src/stock.rt:68:9
 returns : tie.Need-returns
 returns c = usable-outside _ _ (c .if1 .taken)
 
--- src/stock.rt:71:9
 returns-2 : tie.Need-returns-2
 returns-2 c = usable-none _ _ (c .before .before .before .if1 .left) (c .if2 .taken)
 
--- src/stock.rt:73:10
 sub-t5 : tie.Need-sub-t5
 sub-t5 c = search needs
 
--- src/stock.rt:64:1
 returns-3 : tie.Need-returns-3
 returns-3 c = usable-left _ _ (c .before .before .before .before .before .if1 .left)
 

@@ -1,5 +1,6 @@
-use mathlib.Core.Path.{_≡_, refl, sym, _∙_, ap}
-use Prim.Native.Nat.{ℕ, _≤_, _<_, _-_, _+_, _*_}
+-- `runs::stock::usable_row` meets its contract. Assumes nothing.
+use mathlib.Core.Path.{_≡_}
+use Prim.Native.Nat.{_-_}
 use native.Mathlib.Omega.{arith}
 use lib.ListN.{length, getD}
 use borrow.Author.Needs.{needs}
@@ -7,7 +8,6 @@ use Rattle.runs.proofs.RowLaws.{Changed, changed-none, changed-more, ch
 use Rattle.runs.specs.Stock.{usableOf}
 use Rattle.runs.proofs.stock.usable_row.Statement.{statement}
 use Rattle.runs.proofs.stock.usable_row.Tie as tie
-use Rattle.runs.proofs.stock.usable.Reads as usable-reads
 
 abbrev Inv-loop : tie.InvT-loop
 Inv-loop inside allocable used row₀ i₀ i-end row i = Changed (λ j c. c ≡ usableOf (getD inside j 0) (getD allocable j 0) (getD used j 0)) row₀ row i
@@ -15,63 +15,48 @@ Inv-loop inside allocable used row₀ i₀ i-end row i = Changed (λ j c. c ≡ 
 abbrev μ-loop : tie.MeasureT-loop
 μ-loop inside allocable used row₀ i₀ i-end row i = length row₀ - i
 
--- src/stock.rt:80:5
 loop-holds : tie.Need-loop-holds Inv-loop μ-loop
 loop-holds c = changed-none _ _
 
--- src/stock.rt:81:27
 mul-usable : tie.Need-mul-usable Inv-loop μ-loop
 mul-usable c = omega arith
 
--- src/stock.rt:81:27
 element-copy-out-usable : tie.Need-element-copy-out-usable Inv-loop μ-loop
 element-copy-out-usable c = omega (arith, c .before .before .before .before .before .pre .few, c .before .loop .inv .size)
 
--- src/stock.rt:81:43
 mul-t13 : tie.Need-mul-t13 Inv-loop μ-loop
 mul-t13 c = omega arith
 
--- src/stock.rt:81:43
 shared-slice-read-t15 : tie.Need-shared-slice-read-t15 Inv-loop μ-loop
 shared-slice-read-t15 c = omega arith
 
--- src/stock.rt:81:63
 mul-t17 : tie.Need-mul-t17 Inv-loop μ-loop
 mul-t17 c = omega arith
 
--- src/stock.rt:81:63
 shared-slice-read-t19 : tie.Need-shared-slice-read-t19 Inv-loop μ-loop
 shared-slice-read-t19 c = omega arith
 
--- src/stock.rt:81:13
 usable-requires : tie.Need-usable-requires Inv-loop μ-loop
 usable-requires c κs = search needs
 
--- src/stock.rt:82:9
 mul-row : tie.Need-mul-row Inv-loop μ-loop
 mul-row c = omega arith
 
--- src/stock.rt:82:9
 slice-write-row : tie.Need-slice-write-row Inv-loop μ-loop
 slice-write-row c = omega arith
 
--- src/stock.rt:80:9
 add-i : tie.Need-add-i Inv-loop μ-loop
 add-i c = omega arith
 
--- src/stock.rt:80:5
 loop-less : tie.Need-loop-less Inv-loop μ-loop
 loop-less c = omega arith
 
--- src/stock.rt:80:5
 loop-again : tie.Need-loop-again Inv-loop μ-loop
 loop-again c = changed-more _ _ (omega arith) (c .usable .ensures) (c .before .before .before .before .before .loop .inv)
 
--- src/stock.rt:76:1
 same-length : tie.Need-same-length Inv-loop μ-loop
 same-length c = c .before .loop .inv .size
 
--- src/stock.rt:76:1
 returns : tie.Need-returns Inv-loop μ-loop
 returns c = changed-all _ (omega arith) (c .before .loop .inv)
 

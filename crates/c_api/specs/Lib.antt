@@ -1,0 +1,2 @@
+-- What a call hands to C.
+pub mod Returned

@@ -1,0 +1,7 @@
+# shellcheck shell=bash
+# What the tests need beside the Rattle toolchain: a command, and the Debian package that has it.
+need() { # COMMAND PACKAGE
+    command -v "$1" >/dev/null && return
+    echo "$1 is missing: installing $2" >&2
+    apt-get install -y -qq "$2" >/dev/null || { apt-get update -qq && apt-get install -y -qq "$2" >/dev/null; }
+}
