@@ -16,9 +16,16 @@ gcc -std=c11 -O2 -Wall -Wextra -Wpedantic -Werror -I ../include c/day.c ../targe
 cargo build --offline --release --quiet
 built=target/release
 $built/stored_days ../crates/allocate
-$built/random_days "$seed" 20000
+$built/stored_calls cases/calls.txt
+# the random days on one core, the rest on the other
+$built/random_days "$seed" 20000 >../target/random_days 2>&1 &
+days=$!
 $built/random_memory "$seed" 1000000
 echo "under valgrind:"
 valgrind --quiet --error-exitcode=1 ../target/day
 valgrind --quiet --error-exitcode=1 $built/random_memory "$((seed + 1))" 20000
 $built/soak "$seed" 250
+ended=0
+wait "$days" || ended=$?
+cat ../target/random_days
+exit "$ended"

@@ -28,16 +28,16 @@ pub const MATCHES: usize = 77 * MATCH;
 pub const LINES: usize = 2464 * LINE;
 
 /// The place of participant p's row in a table by participant and issue.
-pub fn row(table: usize, p: usize) -> usize {
+pub const fn row(table: usize, p: usize) -> usize {
     table + MOST_ISSUES * p
 }
 
 /// The place of a basket's row of positions.
-pub fn positions(basket: usize) -> usize {
+pub const fn positions(basket: usize) -> usize {
     POSITIONS + MOST_PARTICIPANTS * basket
 }
 
 /// The place of a deliverer's row of pair marks.
-pub fn marks(table: usize, basket: usize, deliverer: usize) -> usize {
+pub const fn marks(table: usize, basket: usize, deliverer: usize) -> usize {
     table + SQUARE * basket + MOST_PARTICIPANTS * deliverer
 }
