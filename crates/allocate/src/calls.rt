@@ -9,11 +9,6 @@ use crate::codes;
 use crate::records;
 use crate::words;
 use crate::words::Number;
-use allocation::close;
-use allocation::notice;
-use allocation::run;
-use allocation::trade;
-use book::layout;
 use rule::RunAnswer;
 use rule::Yen;
 
@@ -26,7 +21,10 @@ pub fn trade_line(line: &[u8], book: &mut Book) -> Reading {
     if !words::arguments(line, b"NNBN", &mut n) {
         return Reading::WrongWord;
     }
-    answers::told(trade::trade(book, n[0], n[1], n[2], Yen(n[3])), b"traded\n");
+    answers::told(
+        allocation::trade(book, n[0], n[1], n[2], Yen(n[3])),
+        b"traded\n",
+    );
     Reading::Read
 }
 
@@ -65,7 +63,7 @@ pub fn notice_line(line: &[u8], book: &mut Book) -> Reading {
         return Reading::WrongWord;
     }
     answers::told(
-        notice::notice(book, participant, &issues[0..n], &lots[0..n]),
+        allocation::notice(book, participant, &issues[0..n], &lots[0..n]),
         b"noted\n",
     );
     Reading::Read
@@ -88,7 +86,7 @@ pub fn run_line(line: &[u8], book: &mut Book) -> Reading {
 fn run_of(book: &mut Book, draw: &[u64]) {
     let mut matches = [0u64; 539];
     let mut lines = [0u64; 7392];
-    match run::run(book, draw, &mut matches, &mut lines) {
+    match allocation::run(book, draw, &mut matches, &mut lines) {
         RunAnswer::Ran {
             matches: n,
             lines: m,
@@ -107,7 +105,10 @@ pub fn close_line(line: &[u8], book: &Book) -> Reading {
     }
     let mut receipts = [0u64; 384];
     let mut pairs = [0u64; 1008];
-    if answers::told(close::close(book, &mut receipts, &mut pairs), b"closed\n") {
+    if answers::told(
+        allocation::close(book, &mut receipts, &mut pairs),
+        b"closed\n",
+    ) {
         closed(book, &receipts, &pairs);
     }
     Reading::Read

@@ -9,8 +9,6 @@ use crate::answers::Reading;
 use crate::codes;
 use crate::words;
 use crate::words::Number;
-use allocation::opening;
-use book::layout;
 use rule::Answer;
 
 // where things stand: the sizes, how many issues are listed, and the tables, with room for the largest day
@@ -163,7 +161,7 @@ fn lend(codes: &[u8], given: &[u64], book: &mut [u64]) -> Answer
     let terms = TERMS + layout::TERM * listed;
     let receipts = RECEIPTS + receipt_place(participants, issues, 0);
     let pairs = PAIRS + pair_place(participants, 7, 0, 0);
-    opening::open(
+    allocation::open(
         given[PARTICIPANTS],
         given[ISSUES],
         &codes[0..bytes],

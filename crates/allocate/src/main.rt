@@ -9,7 +9,6 @@ mod records;
 mod sample;
 mod words;
 
-use book::layout;
 use lines::Place;
 
 type Book = [u64; layout::LENGTH];

@@ -5,7 +5,6 @@ ghost use lib.ListN.{length};
 use crate::Book;
 use crate::answers::write;
 use crate::codes;
-use book::layout;
 use book::sound;
 
 fn signed(cell: u64) {

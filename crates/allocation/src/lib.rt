@@ -1,7 +1,6 @@
 // The calls on a book: opening, trade, notice, run, close. Each answers for all arguments, and a refused one changes nothing.
-mod cells;
-pub mod close;
-pub mod notice;
-pub mod opening;
-pub mod run;
-pub mod trade;
+pub use close::close;
+pub use notice::notice;
+pub use opening::open;
+pub use run::run;
+pub use trade::trade;

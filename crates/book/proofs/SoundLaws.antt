@@ -26,7 +26,7 @@ use Rattle.rule.specs.Filling.{eligible}
 use Rattle.rule.specs.Day.{termsOf}
 use Rattle.rule.specs.Sound.{positionLimit, tradable}
 use Rattle.rule.specs.Layout.{termsAt, plus, minus}
-use Rattle.book.specs.Ranges.{rowPasses}
+use Rattle.ranges.specs.Ranges.{rowPasses}
 use Rattle.book.specs.Sized.{bookTerms, eligibleAt, isWithin, basketFits}
 
 -- ---- a signed cell

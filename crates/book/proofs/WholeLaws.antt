@@ -17,9 +17,9 @@ use Rattle.lists.proofs.PartLaws.{grid-get}
 use Rattle.rule.specs.Day.{baskets}
 use Rattle.rule.specs.Sound.{sound, sizesFit, atMost, marksFit, tradable, positionLimit, noticeLimit, tallyLimit, tradeLimit}
 use Rattle.rule.specs.Layout.{bookLength, positionsAt, noticesAt, todayAt, tallyAt, plus, minus, cube, view, bookFits, soundBook}
-use Rattle.book.specs.Ranges.{rowPasses}
+use Rattle.ranges.specs.Ranges.{rowPasses}
 use Rattle.book.specs.Sized.{Sized, bookTerms, isWithin, whileRuns, basketFits, positionsFit, givenFits, stateWithin, stateFits}
-use Rattle.book.proofs.ScanLaws.{all-and}
+use Rattle.ranges.proofs.ScanLaws.{all-and}
 
 -- ---- tests in another order
 

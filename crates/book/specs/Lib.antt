@@ -1,3 +1,2 @@
 -- What the contracts of the book cite besides the rule.
-pub mod Ranges
 pub mod Sized

@@ -15,7 +15,7 @@ use Rattle.rule.specs.Isin.{codesRight}
 use Rattle.rule.specs.Day.{baskets, termsOf}
 use Rattle.rule.specs.Sound.{allTermsFit, receiptsFit, atMost, marksFit, tradable, positionLimit, noticeLimit, tallyLimit, tradeLimit}
 use Rattle.rule.specs.Layout.{bookLength, codesAt, termsAt, receiptsAt, pairsAt, positionsAt, noticesAt, todayAt, tallyAt, plus, minus, cube}
-use Rattle.book.specs.Ranges.{rowPasses}
+use Rattle.ranges.specs.Ranges.{rowPasses}
 
 -- the book has its length, and its day's sizes are in range
 pub record Sized (b : List ℕ) : Type 0 where

@@ -5,11 +5,9 @@ ghost use lib.ListN.{getD};
 ghost use lib.Dec.{leb};
 ghost use Rattle.rule.specs.Sound.{positionLimit, tradable as tradableOf};
 ghost use Rattle.rule.specs.Layout.{plus, minus, soundBook, positionsAt};
-ghost use Rattle.book.specs.Ranges.{Room, rowPasses};
+ghost use Rattle.ranges.specs.Ranges.{Room, rowPasses};
 ghost use Rattle.book.specs.Sized.{Sized, Limited, bookTerms, isWithin, whileRuns, basketFits, positionsFit, tallyFits, codesFit, givenFits, stateFits};
-use crate::layout;
 use crate::limits;
-use crate::ranges;
 
 // "Positive is owed to the clearing house, negative is due from it": the two sides of a signed cell.
 pub fn owed_of(cell: u64) -> u64

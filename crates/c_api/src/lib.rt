@@ -69,7 +69,7 @@ fn returned_run(answer: RunAnswer) -> u64
 pub extern "C" fn allocation_book_length() -> u64
     ensures { λ r. ⌜ r ≡ bookLength ⌝ }
 {
-    book::length() as u64
+    layout::length() as u64
 }
 
 #[no_mangle]
@@ -84,7 +84,7 @@ pub extern "C" fn allocation_open(
 ) -> u64
     ensures { λ r. ⌜ (r, now (book .exit)) ≡ forC (openOf participants issues (now (codes .entry)) (now (terms .entry)) (now (receipts .entry)) (now (pairs .entry)) (now (book .entry))) ⌝ }
 {
-    returned(allocation::opening::open(participants, issues, codes, terms, receipts, pairs, book))
+    returned(allocation::open(participants, issues, codes, terms, receipts, pairs, book))
 }
 
 #[no_mangle]
@@ -97,7 +97,7 @@ pub extern "C" fn allocation_trade(
 ) -> u64
     ensures { λ r. ⌜ (r, now (book .exit)) ≡ forC (tradeOf (now (book .entry)) seller buyer basket yen) ⌝ }
 {
-    returned(allocation::trade::trade(book, seller, buyer, basket, Yen(yen)))
+    returned(allocation::trade(book, seller, buyer, basket, Yen(yen)))
 }
 
 #[no_mangle]
@@ -109,7 +109,7 @@ pub extern "C" fn allocation_notice(
 ) -> u64
     ensures { λ r. ⌜ (r, now (book .exit)) ≡ forC (noticeOf (now (book .entry)) participant (now (issues .entry)) (now (lots .entry))) ⌝ }
 {
-    returned(allocation::notice::notice(book, participant, issues, lots))
+    returned(allocation::notice(book, participant, issues, lots))
 }
 
 #[no_mangle]
@@ -121,12 +121,12 @@ pub extern "C" fn allocation_run(
 ) -> u64
     ensures { λ r. ⌜ (r, (now (book .exit), now (matches .exit), now (lines .exit))) ≡ forC (runOf (now (book .entry)) (now (draw .entry)) (now (matches .entry)) (now (lines .entry))) ⌝ }
 {
-    returned_run(allocation::run::run(book, draw, matches, lines))
+    returned_run(allocation::run(book, draw, matches, lines))
 }
 
 #[no_mangle]
 pub extern "C" fn allocation_close(book: &[u64], receipts: &mut [u64], pairs: &mut [u64]) -> u64
     ensures { λ r. ⌜ (r, (now (receipts .exit), now (pairs .exit))) ≡ forC (closeOf (now (book .entry)) (now (receipts .entry)) (now (pairs .entry))) ⌝ }
 {
-    returned(allocation::close::close(book, receipts, pairs))
+    returned(allocation::close(book, receipts, pairs))
 }

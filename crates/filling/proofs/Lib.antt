@@ -1,10 +1,7 @@
--- What belongs to no one function.
-pub mod TurnLaws
+-- Laws that the proofs cite.
 pub mod RowLaws
+pub mod OnceLaws
 pub mod PassLaws
 pub mod WalkLaws
-pub mod SumLaws
-pub mod TermLaws
-pub mod ChoiceLaws
+pub mod NothingLaws
 pub mod MatchLaws
-pub mod OrderLaws

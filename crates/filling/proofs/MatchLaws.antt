@@ -14,35 +14,28 @@ use Rattle.lists.specs.Tables.{zeros}
 use Rattle.lists.proofs.TestLaws.{pick-yes, pick-no, pick-elim}
 use Rattle.rule.specs.Value.{Terms, noTerms, value, fewest}
 use Rattle.rule.specs.Allocable.{unmarked, allocable}
-use Rattle.rule.specs.Filling.{worth, Taken, nothing, others, fill, covered, Filled, forcedIssue, cover, force, carry, filled}
+use Rattle.rule.specs.Filling.{worth, Taken, nothing, others, fill, covered, Filled, forcedIssue, plain, cover, force, carry, filled}
 use Rattle.rule.proofs.FillingLaws.{apart}
 use Rattle.rule.proofs.FilledLaws.{covered-all, covered-most}
-use Rattle.filling.specs.Rated.{Rated, Rates, Stocked, termsIn}
-use Rattle.filling.specs.Turns.{padded, besides, Part, Short, Emptied, Fillable}
-use Rattle.filling.specs.Match.{Matchable, Forcible, FilledAs}
+use Rattle.value.specs.Rated.{Rated, Rates, Stocked, termsIn}
+use Rattle.turns.specs.Turns.{besides, Part, Short}
+use Rattle.filling.specs.Rows.{padded, Emptied, Fillable}
+use Rattle.filling.specs.Match.{Idle, Matchable, Forcible, FilledAs}
 use Rattle.filling.specs.declared.Filling.{Filling}
 use Rattle.filling.proofs.RowLaws.{getD-padded, padded-zeros, length-row}
-use Rattle.filling.proofs.PassLaws.{left, walked-left}
-use Rattle.filling.proofs.WalkLaws.{priced-of, even, named}
-use Rattle.filling.proofs.TermLaws.{terms-length}
-use Rattle.filling.proofs.ChoiceLaws.{forced-inside}
+use Rattle.filling.proofs.NothingLaws.{fill-none}
+use Rattle.filling.proofs.WalkLaws.{priced-of}
+use Rattle.value.proofs.TermLaws.{terms-length}
+use Rattle.forced.proofs.ChoiceLaws.{forced-inside}
 
 -- ---- nothing for an amount of 0
 
 module _ {issues : ℕ} {rates lots usable order : List ℕ} {amount : ℕ} (f : Fillable issues rates lots usable order amount) where
-  pub fill-nothing : amount ≡ 0 → (preferential : Bool) (ts : List Terms) → length ts ≡ issues → Rates ts rates
-      → lots ≡ padded (fill preferential ts (take issues usable) (take issues order) amount .lots)
-  unfolding fill
-  fill-nothing z preferential ts sized rated = go preferential
+  pub fill-nothing : amount ≡ 0 → (preferential : Bool) (ts : List Terms) → lots ≡ padded (fill preferential ts (take issues usable) (take issues order) amount .lots)
+  fill-nothing z preferential ts = rw (z, fill-none preferential ts (take issues usable) (take issues order)) empty
     where
       empty : lots ≡ padded (nothing (length (take issues usable)) .lots)
       empty = f .empty ∙ sym (rw (length-row issues usable (omega (arith, f .stock .issues-most, f .stock .wide))) (padded-zeros issues (f .stock .issues-most)))
-
-      go : (preferential : Bool) → lots ≡ padded (fill preferential ts (take issues usable) (take issues order) amount .lots)
-      go true = empty ∙ ap (λ (s : Taken). padded (s .lots))
-          (sym (walked-left ts (priced-of ts rates rated) (take issues usable) (take issues order) amount (even f ts sized) (named f ts sized) 0 (omega arith)))
-      go false = empty ∙ ap (λ (s : Taken). padded (s .lots))
-          (sym (left ts (priced-of ts rates rated) (take issues usable) (take issues order) amount (even f ts sized) (named f ts sized) 1 0 (omega arith) (omega arith) (omega arith)))
 
 -- ---- the amount is carried in part, or whole
 
@@ -53,6 +46,7 @@ carried {amount = amount} all f e = record {
   empty = f .empty;
   long = f .long;
   inside = f .inside;
+  once = f .once;
   amount-most = omega (arith, e, covered-most amount all, f .amount-most);
 }
 
@@ -66,16 +60,16 @@ carry-filled preferential ts usable order amount w e l c f x =
 
 -- ---- all usable lots go
 
-module _ {issues : ℕ} {terms usable rates lots : List ℕ} {reached amount : ℕ} (p : Forcible issues terms usable rates reached amount lots) where
+module _ {issues : ℕ} {terms notified usable rates lots : List ℕ} {reached amount : ℕ} (p : Forcible issues terms notified usable rates reached amount lots) where
   abbrev ts : List Terms
   ts = termsIn issues terms
 
   abbrev u : List ℕ
   u = take issues usable
 
-  module _ (basket : ℕ) (notified : List ℕ) {i : ℕ} (e : i ≡ forcedIssue basket ts notified) where
+  module _ (basket : ℕ) {i : ℕ} (e : i ≡ forcedIssue basket ts (take issues notified)) where
     pub forced-below : i < issues
-    forced-below = omega (arith, e, forced-inside basket ts (omega (arith, terms-length issues terms, p .issues-least)) notified, terms-length issues terms)
+    forced-below = omega (arith, e, forced-inside basket ts (omega (arith, terms-length issues terms, p .issues-least)) (take issues notified), terms-length issues terms)
 
     in-terms : i < length ts
     in-terms = omega (arith, forced-below, terms-length issues terms)
@@ -110,7 +104,7 @@ module _ {issues : ℕ} {terms usable rates lots : List ℕ} {reached amount : �
     pub force-filled : {further : ℕ} {lots′ : List ℕ} {r : Filling}
         → ((t : Terms) → Rated t (getD rates i 0) → further ≡ fewest t (amount - besides t (getD usable i 0) reached) - getD usable i 0)
         → lots′ ≡ padded u → r .covered .0 ≡ amount → r .forced ≡ i → r .«forced_lots» .0 ≡ further
-        → FilledAs (force ts u (forcedIssue basket ts notified) amount) r lots′
+        → FilledAs (force ts u (forcedIssue basket ts (take issues notified)) amount) r lots′
     unfolding force
     force-filled {further} g l c f x =
         let b : besides (getD ts i noTerms) (getD usable i 0) reached ≡ others ts all i = omega (arith, its-part) in
@@ -139,10 +133,32 @@ module _ (preferential : Bool) (ts : List Terms) (usable order : List ℕ) (f am
       pick-yes (leb amount (worth ts usable)) _ _ (le-leb amount (worth ts usable) (omega arith))
       ∙ ap (λ (a : ℕ). cover preferential ts usable order a) (sym (covered-all amount (worth ts usable) (omega arith)))
 
+  -- nothing is covered
+  uncovered : (runs : ℕ) → runs < 2 → covered amount all ≡ 0 → filled runs preferential ts usable order f amount ≡ plain 0 (nothing (length usable))
+  unfolding carry cover
+  uncovered runs h e =
+      let z : covered amount (worth ts usable) ≡ 0 = rw w at e in
+      otherwise runs (inl h) ∙ rw (z, fill-none preferential ts usable order)
+
+-- ---- where filling does not go through the issues
+
+module _ (runs all amount : ℕ) where
+  pub idle-forced : 2 ≤ runs → all < amount → Idle runs all amount
+  idle-forced h l = record {
+    same = λ preferential ts usable order order′ f w.
+        third-short preferential ts usable order f amount w runs h l ∙ sym (third-short preferential ts usable order′ f amount w runs h l);
+  }
+
+  pub idle-uncovered : runs < 2 → covered amount all ≡ 0 → Idle runs all amount
+  idle-uncovered h e = record {
+    same = λ preferential ts usable order order′ f w.
+        uncovered preferential ts usable order f amount w runs h e ∙ sym (uncovered preferential ts usable order′ f amount w runs h e);
+  }
+
 -- ---- what the calls ask
 
-module _ {issues : ℕ} {terms usable order rates lots : List ℕ} {amount : ℕ} (m : Matchable issues terms usable order rates amount lots) where
-  pub stocked : Stocked issues usable rates
+module _ {issues : ℕ} {terms notified usable order rates lots : List ℕ} {all amount : ℕ} (m : Matchable issues terms notified usable order rates all amount lots) where
+  stocked : Stocked issues usable rates
   stocked = record {
     terms = termsIn issues terms;
     sized = terms-length issues terms;
@@ -154,16 +170,16 @@ module _ {issues : ℕ} {terms usable order rates lots : List ℕ} {amount : ℕ
 
   module _ {lots′ : List ℕ} (empty : lots′ ≡ zeros 32) where
     pub fillable : Fillable issues rates lots′ usable order amount
-    fillable = record { stock = stocked; empty = empty; long = m .long; inside = m .inside; amount-most = m .amount-most }
+    fillable = record { stock = stocked; empty = empty; long = m .long; inside = m .inside; once = m .once; amount-most = m .amount-most }
 
-    pub forcible : {all : ℕ} → ((ts : List Terms) → length ts ≡ issues → Rates ts rates → all ≡ worth ts (take issues usable)) → all < amount
-        → Forcible issues terms usable rates all amount lots′
-    forcible e l = record {
+    pub forcible : all < amount → Forcible issues terms notified usable rates all amount lots′
+    forcible l = record {
       issues-least = m .issues-least;
       cells = m .cells;
+      notified-there = m .notified-there;
       rated = m .rated;
       emptied = record { empty = empty; wide = m .wide; issues-most = m .issues-most };
-      sum = e (termsIn issues terms) (terms-length issues terms) (m .rated);
+      sum = m .all-is;
       below = l;
       amount-most = m .amount-most;
     }

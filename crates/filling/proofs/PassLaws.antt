@@ -1,12 +1,14 @@
 -- The passes of a drawn match, by number, with what stands in each: the code's turn is the rule's step, and where the amount is
 -- reached the rest of this pass and the later ones change nothing. Assumes nothing.
 use mathlib.Core.Path.{_≡_, refl, sym, ap, _∙_}
+use mathlib.Core.Logic.{_≢_}
 use Prim.Native.Nat.{ℕ, zero, suc, _+_, _-_, _*_, _/_, _%_, _≤_, _<_, min, max}
 use native.Mathlib.Nat.{le-refl, le-trans, not-suc-le-zero}
 use native.Mathlib.Decide.{decLe}
 use native.Mathlib.Omega.{arith}
 use mathlib.Core.List.{List, [], _∷_, _++_}
 use lib.ListN.{length, getD, take, drop, set, take-append-drop}
+use lib.Seq.{getD-set-other}
 use Rattle.lists.specs.Tables.{zeros}
 use Rattle.lists.specs.Folds.{foldl, Every}
 use Rattle.lists.proofs.FoldLaws.{foldl-append}
@@ -15,8 +17,8 @@ use Rattle.rule.specs.Value.{Terms, noTerms, value, fewest, most}
 use Rattle.rule.specs.Filling.{worth, Taken, nothing, lotsOf, others, become, takeUpTo, walk, fillPreferential, unit, target, takeUnits, firstPass, withRemainder, secondPass, fillDrawn}
 use Rattle.rule.proofs.ValueLaws.{value-strict, most-keeps, most-greatest}
 use Rattle.rule.proofs.FillingLaws.{Priced, Good, Units, apart, worth-zeros, become-same, walk-good, walk-idle, pass-good}
-use Rattle.filling.specs.Turns.{besides, boundOf, nextOf, upTo, wholeUnits}
-use Rattle.filling.proofs.RowLaws.{every-take, every-drop}
+use Rattle.turns.specs.Turns.{besides, boundOf, nextOf, upTo, wholeUnits}
+use Rattle.lists.proofs.FoldLaws.{every-take, every-drop}
 
 -- the step of a pass, and what the match has where the pass begins
 abbrev pub step : List Terms → List ℕ → List ℕ → ℕ → ℕ → Taken → ℕ → Taken
@@ -76,6 +78,15 @@ module _ (ts : List Terms) (priced : Priced ts) (usable : List ℕ) (order : Lis
     pub walk-above : (xs : List ℕ) → inside xs → (s : Taken) → Good ts bound s → (j : ℕ) → lotsOf s j ≤ lotsOf (foldl (takeUpTo ts amount bound) s xs) j
     walk-above [] q s g j = le-refl _
     walk-above (i ∷ is) q s g j = le-trans (step-above s i g j) (walk-above is (q .1) (takeUpTo ts amount bound s i) (step-good s i (q .0) g) j)
+
+    -- nor changes the lots of an issue that it does not meet
+    step-other : (s : Taken) (i j : ℕ) → j ≢ i → lotsOf (takeUpTo ts amount bound s i) j ≡ lotsOf s j
+    unfolding takeUpTo become
+    step-other s i j d = getD-set-other (s .lots) i j _ 0 d
+
+    walk-other : (xs : List ℕ) (j : ℕ) → Every (λ i. j ≢ i) xs → (s : Taken) → lotsOf (foldl (takeUpTo ts amount bound) s xs) j ≡ lotsOf s j
+    walk-other [] j q s = refl
+    walk-other (i ∷ is) j q s = walk-other is j (q .1) (takeUpTo ts amount bound s i) ∙ step-other s i j (q .0)
 
   -- ---- where the target is reached the rest of the first pass changes nothing
 
@@ -184,6 +195,11 @@ module _ (ts : List Terms) (priced : Priced ts) (usable : List ℕ) (order : Lis
           good = walk-good ts priced amount remainders (take k order) q first first-within;
           above = walk-above remainders (take k order) q first first-within;
         }
+
+    -- an issue that is not met yet in the second pass has whole units
+    pub second-whole : (p k j : ℕ) → p ≡ 2 → Every (λ i. j ≢ i) (take k order)
+        → lotsOf (after ts usable order amount p k) j / unit * unit ≡ lotsOf (after ts usable order amount p k) j
+    second-whole p k j e q = rw (e, walk-other remainders (take k order) j q first) (first-units .whole j)
 
     second-within : Good ts may (secondPass ts usable order amount)
     unfolding secondPass walk withRemainder

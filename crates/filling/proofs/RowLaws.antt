@@ -10,25 +10,9 @@ use lib.ListN.{length, getD, take, drop, set, length-append, length-set, length-
 use lib.Seq.{ext-getD, set-append-left, getD-take, getD-set-same, getD-set-other}
 use Rattle.lists.specs.Tables.{zeros}
 use Rattle.lists.specs.Folds.{Every}
+use Rattle.lists.proofs.FoldLaws.{every-index}
 use Rattle.lists.proofs.TableLaws.{length-table, getD-zeros}
-use Rattle.filling.specs.Turns.{padded}
-
--- ---- what is general: for crate lists
-
--- what holds by index holds of every entry
-pub every-of : {A : Type 0} (P : A → Type 0) (d : A) (l : List A) → ((k : ℕ) → k < length l → P (getD l k d)) → Every P l
-every-of P d [] h = tt
-every-of P d (x ∷ xs) h = (h 0 (suc-le-suc zero-le), every-of P d xs (λ k l. h (suc k) (suc-le-suc l)))
-
-pub every-take : {A : Type 0} (P : A → Type 0) (k : ℕ) (l : List A) → Every P l → Every P (take k l)
-every-take P zero l h = tt
-every-take P (suc k) [] h = tt
-every-take P (suc k) (x ∷ xs) h = (h .0, every-take P k xs (h .1))
-
-pub every-drop : {A : Type 0} (P : A → Type 0) (k : ℕ) (l : List A) → Every P l → Every P (drop k l)
-every-drop P zero l h = h
-every-drop P (suc k) [] h = tt
-every-drop P (suc k) (x ∷ xs) h = every-drop P k xs (h .1)
+use Rattle.filling.specs.Rows.{padded}
 
 getD-then-zeros : (l : List ℕ) (n i : ℕ) → getD (l ++ zeros n) i 0 ≡ getD l i 0
 getD-then-zeros [] n i = getD-zeros n i
@@ -61,7 +45,7 @@ pub length-row : (n : ℕ) (l : List ℕ) → n ≤ length l → length (take n 
 length-row n l h = length-take n l ∙ omega arith
 
 pub every-row : (n : ℕ) (l : List ℕ) → n ≤ length l → (P : ℕ → Type 0) → ((k : ℕ) → k < n → P (getD l k 0)) → Every P (take n l)
-every-row n l h P f = every-of P 0 (take n l) (λ k b. let b′ : k < n = omega (arith, length-row n l h) in rw (getD-take n l k 0 b′) (f k b′))
+every-row n l h P f = every-index P 0 (take n l) (λ k b. let b′ : k < n = omega (arith, length-row n l h) in rw (getD-take n l k 0 b′) (f k b′))
 
 -- ---- a row copied, cell by cell, into one of zeros
 

@@ -4,20 +4,22 @@ use Prim.Native.Nat.{ℕ, zero, suc, _+_, _-_, _*_, _/_, _≤_, _<_}
 use native.Mathlib.Nat.{not-suc-le-zero}
 use native.Mathlib.Numerals.{add-one}
 use native.Mathlib.Omega.{arith}
+use mathlib.Core.Logic.{_≢_}
 use mathlib.Core.List.{List}
 use lib.ListN.{length, getD, take, set}
 use lib.Seq.{getD-take, take-all}
 use Rattle.lists.specs.Tables.{zeros}
 use Rattle.lists.specs.Folds.{foldl, Every}
-use Rattle.lists.proofs.FoldLaws.{foldl-take}
+use Rattle.lists.proofs.FoldLaws.{foldl-take, every-index}
 use Rattle.rule.specs.Value.{Terms, noTerms, value}
 use Rattle.rule.specs.Filling.{worth, Taken, nothing, lotsOf, others, become, takeUpTo, walk, fillPreferential, unit, target, firstPass, secondPass, fillDrawn}
 use Rattle.rule.proofs.FillingLaws.{Priced, apart, worth-become}
-use Rattle.filling.specs.Rated.{Rated, Rates}
-use Rattle.filling.specs.Turns.{padded, besides, boundOf, nextOf, Turnable, Ready, RowTurned, Fillable}
-use Rattle.filling.proofs.TurnLaws.{some-price}
+use Rattle.value.specs.Rated.{Rated, Rates}
+use Rattle.turns.specs.Turns.{besides, boundOf, nextOf, Turnable}
+use Rattle.filling.specs.Rows.{padded, Ready, RowTurned, Fillable}
+use Rattle.turns.proofs.TurnLaws.{some-price}
 use Rattle.filling.proofs.RowLaws.{getD-padded, length-padded, set-padded, padded-zeros, length-row, every-row}
-use Rattle.filling.proofs.PassLaws.{step, begun, after, Stands, nothing-worth, stands-at, left, walked-stands, walked-left}
+use Rattle.filling.proofs.PassLaws.{step, begun, after, Stands, nothing-worth, stands-at, second-whole, left, walked-stands, walked-left}
 
 -- the code's lots are the match's, and what it carries is what they are worth
 pub record Held (ts : List Terms) (s : Taken) (lots : List ℕ) (reached : ℕ) : Type 0 where
@@ -53,8 +55,9 @@ module _ (ts : List Terms) {rates : List ℕ} (usable order : List ℕ) {issues 
   its-part : others ts s i + value (getD ts i noTerms) (lotsOf s i) ≡ worth ts (s .lots)
   its-part = apart ts (priced-of ts rates rated) s i in-terms (k .sized)
 
-  pub ready : reached < amount → amount ≤ 10_000_000_000_000 → getD usable i 0 ≤ 200_000_000 → Ready pass rates lots usable i reached amount
-  ready below most usable-most = record {
+  pub ready : reached < amount → amount ≤ 10_000_000_000_000 → getD usable i 0 ≤ 200_000_000 → (pass ≡ 2 → lotsOf s i / unit * unit ≡ lotsOf s i)
+      → Ready pass rates lots usable i reached amount
+  ready below most usable-most second = record {
     places = ap length (h .cells) ∙ length-padded (s .lots) (omega (arith, k .sized));
     inside = omega arith;
     turnable = rw had (record {
@@ -69,6 +72,7 @@ module _ (ts : List Terms) {rates : List ℕ} (usable order : List ℕ) {issues 
       below = below;
       amount-most = most;
       first = λ e. record { whole = k .whole e i; kept = omega (arith, h .sum, k .kept e) };
+      second = second;
     });
   }
 
@@ -137,12 +141,13 @@ module _ {issues : ℕ} {rates start usable order : List ℕ} {amount : ℕ} (f 
   -- a turn of the issue in place k of the order
   module _ {pass k : ℕ} {from : List Terms → Taken} {lots : List ℕ} {reached : ℕ} (h : Holds issues rates amount from lots reached) (at : k < issues)
       (stands : (ts : List Terms) → length ts ≡ issues → Rates ts rates → Stands ts u o amount pass (from ts)) where
-    pub turn-ready : Ready pass rates lots usable (getD order k 0) reached amount
-    turn-ready =
+    pub turn-ready : ((ts : List Terms) → length ts ≡ issues → Rates ts rates → pass ≡ 2 → lotsOf (from ts) (getD order k 0) / unit * unit ≡ lotsOf (from ts) (getD order k 0))
+        → Ready pass rates lots usable (getD order k 0) reached amount
+    turn-ready second =
         let ts = f .stock .terms in
         let sized = f .stock .sized in
         let rated = f .stock .rated in
-        ready ts usable order sized rated (f .stock .issues-most) (stands ts sized rated) (h .held ts sized rated) (f .inside k at) (h .below) (f .amount-most) (f .stock .usable-most _ (f .inside k at))
+        ready ts usable order sized rated (f .stock .issues-most) (stands ts sized rated) (h .held ts sized rated) (f .inside k at) (h .below) (f .amount-most) (f .stock .usable-most _ (f .inside k at)) (second ts sized rated)
 
     module _ {lots′ : List ℕ} {r : ℕ} (t : (t : Terms) → Rated t (getD rates (getD order k 0) 0) → RowTurned pass t lots usable (getD order k 0) reached amount lots′ r) where
       pub turn-held : (ts : List Terms) (sized : length ts ≡ issues) (rated : Rates ts rates) → Held ts (step ts u o amount pass (from ts) (getD o k 0)) lots′ r
@@ -185,8 +190,15 @@ module _ {issues : ℕ} {rates start usable order : List ℕ} {amount : ℕ} (f 
     stands : (ts : List Terms) → length ts ≡ issues → Rates ts rates → Stands ts u o amount pass (after ts u o amount pass k)
     stands ts sized rated = stands-at ts (priced-of ts rates rated) u o amount (even ts sized) (named ts sized) pass k (a .low) (a .high)
 
+    -- the issue in place k of the order is none of those before it
+    not-met : Every (λ i. getD order k 0 ≢ i) (take k o)
+    not-met = every-index _ 0 (take k o) (λ j b.
+        let l : j < k = omega (arith, length-row k o (omega (arith, length-order))) in
+        rw (getD-take k o j 0 l, getD-take issues order j 0 (omega arith)) (λ e. absurd (omega (arith, f .once k j at (omega arith) e))))
+
     pub drawn-ready : Ready pass rates lots usable (getD order k 0) reached amount
     drawn-ready = turn-ready (a .holds) at stands
+        (λ ts sized rated e. second-whole ts (priced-of ts rates rated) u o amount (even ts sized) (named ts sized) pass k (getD order k 0) e not-met)
 
     module _ {lots′ : List ℕ} {r : ℕ} (t : (t : Terms) → Rated t (getD rates (getD order k 0) 0) → RowTurned pass t lots usable (getD order k 0) reached amount lots′ r) where
       one-more : (ts : List Terms) → length ts ≡ issues → Rates ts rates → Held ts (after ts u o amount pass (k + 1)) lots′ r
@@ -225,7 +237,7 @@ module _ {issues : ℕ} {rates start usable order : List ℕ} {amount : ℕ} (f 
     walk-stands ts sized rated = walked-stands ts (priced-of ts rates rated) u o amount (even ts sized) (named ts sized) k
 
     pub walk-ready : Ready 3 rates lots usable (getD order k 0) reached amount
-    walk-ready = turn-ready (a .holds) at walk-stands
+    walk-ready = turn-ready (a .holds) at walk-stands (λ ts sized rated e. absurd (omega arith))
 
     module _ {lots′ : List ℕ} {r : ℕ} (t : (t : Terms) → Rated t (getD rates (getD order k 0) 0) → RowTurned 3 t lots usable (getD order k 0) reached amount lots′ r) where
       one-further : (ts : List Terms) → length ts ≡ issues → Rates ts rates

@@ -1,6 +1,3 @@
--- The definitions that the contracts cite.
-pub mod Rated
-pub mod Turns
-pub mod Choice
+-- What the contracts of filling cite besides the rule.
+pub mod Rows
 pub mod Match
-pub mod Ordered

@@ -1,9 +1,20 @@
-// Matches with teeth, filled. A line is what the match shows, its covered amount, the forced issue and lots, and its lots by issue.
+// Fills the match of each case of standard input and writes what it shows: the name, the covered amount, the forced issue and
+// lots, and its lots by issue.
+//
+// A case is a line:
+//     name: runs sort basket amount | terms | notified | usable | used
+// The runs are those done, the sort is `drawn` or `preferential` and the basket A to G, of which the first letter counts, and
+// the amount is in yen. The terms are six to an issue, as in the book. Lots are by issue, the last row those that earlier
+// baskets used; a row has one number or more, and goes on with zeros. Numbers are digits alone, apart by blanks. Empty lines
+// and those that start with # count for nothing. A line that is no case is written after `no case: `.
+mod words;
+
 ghost use mathlib.Core.Path.{_≡_};
 ghost use mathlib.Core.Bool.{true};
 ghost use Prim.Native.Nat.{ℕ, _+_, _*_, _≤_, _<_};
-ghost use lib.ListN.{length, getD};
-ghost use Rattle.filling_cases.specs.Ranges.{Fit};
+ghost use lib.ListN.{getD};
+ghost use Rattle.filling_cases.specs.Ranges.{Issues, Fit};
+use filling::Filling;
 use rule::Yen;
 
 // The numbers of an issue's terms that a value is made of are in their ranges.
@@ -23,7 +34,7 @@ fn fits(price: u64, coupon: u64, days: u64) -> bool
 }
 
 fn all_fit(terms: &[u64], issues: usize) -> bool
-    requires { ⌜ (issues ≤ 32) × (6 * issues ≤ length (now terms)) ⌝ }
+    requires { ⌜ Issues issues (now terms) ⌝ }
     ensures { λ r. ⌜ (r ≡ true → (i : ℕ) → i < issues → Fit (getD (now (terms .entry)) (6 * i + 1) 0) (getD (now (terms .entry)) (6 * i + 2) 0) (getD (now (terms .entry)) (6 * i + 3) 0)) ⌝ }
 {
     for i in 0..issues {
@@ -35,27 +46,16 @@ fn all_fit(terms: &[u64], issues: usize) -> bool
     true
 }
 
-fn all_usable(usable: &[u64; 32]) -> bool
-    ensures { λ r. ⌜ (r ≡ true → (i : ℕ) → i < 32 → getD (now (usable .entry)) i 0 ≤ 200_000_000) ⌝ }
+// Lots that a notice may have.
+fn all_within(lots: &[u64; 32]) -> bool
+    ensures { λ r. ⌜ (r ≡ true → (i : ℕ) → i < 32 → getD (now (lots .entry)) i 0 ≤ 200_000_000) ⌝ }
 {
     for i in 0usize..32 {
-        if usable[i] > 200_000_000 {
+        if lots[i] > 200_000_000 {
             return false;
         }
     }
     true
-}
-
-// A row by issue number.
-fn row(cells: &[u64]) -> [u64; 32] {
-    let mut r = [0u64; 32];
-    if cells.len() > 32 {
-        return r;
-    }
-    for i in 0..cells.len() {
-        r[i] = cells[i];
-    }
-    r
 }
 
 fn say(number: u64) {
@@ -71,38 +71,55 @@ fn say_lots(lots: [u64; 32], issues: usize)
     }
 }
 
-// The order of the issues is worked out from the notified lots, as a run does.
+// The name has its colon.
+fn show(name: &[u8], filled: Filling, lots: [u64; 32], issues: usize)
+    requires { ⌜ issues ≤ 32 ⌝ }
+{
+    let covered = filled.covered;
+    let forced_lots = filled.forced_lots;
+    io::write_all(1, name);
+    say(covered.0);
+    say(filled.forced);
+    say(forced_lots.0);
+    io::write_all(1, b" |");
+    say_lots(lots, issues);
+    io::write_all(1, b"\n");
+}
+
+// Says whether the numbers are in their ranges: only then is a match filled. The order of the issues is worked out from the
+// notified lots, as a run does.
 fn case(
     name: &[u8],
     runs: u64,
     preferential: bool,
     basket: u64,
     amount: u64,
+    issues: usize,
     terms: &[u64],
     notified: [u64; 32],
     usable: [u64; 32],
-    before: [u64; 32],
-) {
-    let issues = terms.len() / 6;
-    if issues < 1 {
-        return;
-    }
-    if issues > 32 {
-        return;
-    }
+    used: [u64; 32],
+) -> bool
+    requires { ⌜ Issues issues (now terms) ⌝ }
+{
     if amount > 10_000_000_000_000 {
-        return;
+        return false;
     }
     if !all_fit(terms, issues) {
-        return;
+        return false;
     }
-    if !all_usable(&usable) {
-        return;
+    if !all_within(&notified) {
+        return false;
+    }
+    if !all_within(&usable) {
+        return false;
     }
     let mut rates = [0u64; 32];
-    filling::rates_of(terms, issues, &mut rates);
+    value::rates_of(terms, issues, &mut rates);
     let mut order = [0u64; 32];
-    filling::issue_order(preferential, &notified, &before, issues, &mut order);
+    ordering::start(&mut order[..]);
+    ordering::issue_order(preferential, &notified, &used, issues, &mut order);
+    let all = value::worth(&usable, &rates, issues);
     let mut lots = [0u64; 32];
     let r = filling::fill_match(
         runs,
@@ -110,1482 +127,110 @@ fn case(
         basket,
         issues,
         terms,
-        &notified,
+        &notified[..],
         &usable,
         &order,
         &rates,
+        all,
         Yen(amount),
         &mut lots,
     );
-    let covered = r.covered;
-    let forced_lots = r.forced_lots;
-    io::write_all(1, name);
-    io::write_all(1, b":");
-    say(covered.0);
-    say(r.forced);
-    say(forced_lots.0);
-    io::write_all(1, b" |");
-    say_lots(lots, issues);
+    show(name, r, lots, issues);
+    true
+}
+
+// The text after a name has the terms and the three rows of lots. Says whether they make a case.
+fn rows(name: &[u8], runs: u64, preferential: bool, basket: u64, amount: u64, text: &[u8]) -> bool {
+    let mut terms = [0u64; 192];
+    let n = words::numbers(text, 1, &mut terms, 192);
+    if n % 6 != 0 {
+        return false;
+    }
+    let issues = n / 6;
+    let mut notified = [0u64; 32];
+    if words::numbers(text, 2, &mut notified, issues) == 0 {
+        return false;
+    }
+    let mut usable = [0u64; 32];
+    if words::numbers(text, 3, &mut usable, issues) == 0 {
+        return false;
+    }
+    let mut used = [0u64; 32];
+    if words::numbers(text, 4, &mut used, issues) == 0 {
+        return false;
+    }
+    case(
+        name,
+        runs,
+        preferential,
+        basket,
+        amount,
+        issues,
+        &terms,
+        notified,
+        usable,
+        used,
+    )
+}
+
+// Says whether the line is a case, or counts for nothing.
+fn read(line: &[u8]) -> bool {
+    if line.len() == 0 {
+        return true;
+    }
+    if line[0] == b'#' {
+        return true;
+    }
+    let colon = words::find(line, 0, b':', false);
+    if colon >= line.len() {
+        return false;
+    }
+    let next = colon + 1;
+    let text = &line[next..];
+    let mut head = [0u64; 4];
+    if words::numbers(text, 0, &mut head, 4) != 4 {
+        return false;
+    }
+    if words::part(text, 5).len() > 0 {
+        return false;
+    }
+    rows(
+        &line[0..next],
+        head[0],
+        head[1] == 1,
+        head[2],
+        head[3],
+        text,
+    )
+}
+
+fn one(line: &[u8]) {
+    if read(line) {
+        return;
+    }
+    io::write_all(1, b"no case: ");
+    io::write_all(1, line);
     io::write_all(1, b"\n");
 }
 
-// The worked days of the paper.
-fn worked_days() {
-    case(
-        b"day 3",
-        0,
-        false,
-        2,
-        120_000,
-        &[2, 10_000, 0, 0, 0, 0, 2, 10_000, 0, 0, 0, 0],
-        row(&[2, 1]),
-        row(&[2, 1]),
-        row(&[0]),
-    );
-    case(
-        b"day 4",
-        0,
-        false,
-        2,
-        160_000,
-        &[2, 10_000, 0, 0, 0, 0, 2, 10_000, 0, 0, 0, 0],
-        row(&[2, 1]),
-        row(&[2, 1]),
-        row(&[0]),
-    );
-    case(
-        b"day 5",
-        0,
-        false,
-        2,
-        20_000_000,
-        &[2, 10_000, 0, 0, 0, 0],
-        row(&[400]),
-        row(&[400]),
-        row(&[0]),
-    );
-    case(
-        b"day 6",
-        0,
-        false,
-        2,
-        20_000_001,
-        &[2, 10_000, 0, 0, 0, 0],
-        row(&[400]),
-        row(&[400]),
-        row(&[0]),
-    );
-    case(
-        b"day 7",
-        0,
-        false,
-        2,
-        120_000,
-        &[2, 10_000, 0, 0, 0, 0, 2, 10_000, 0, 0, 0, 0],
-        row(&[5, 9]),
-        row(&[5, 1]),
-        row(&[0]),
-    );
-    case(
-        b"day 8",
-        0,
-        false,
-        2,
-        10_000_000_000,
-        &[2, 10_100, 0, 0, 0, 0],
-        row(&[250_000]),
-        row(&[250_000]),
-        row(&[0]),
-    );
-    case(
-        b"day 9",
-        2,
-        false,
-        2,
-        120_000,
-        &[2, 10_000, 0, 0, 0, 0],
-        row(&[0]),
-        row(&[0]),
-        row(&[0]),
-    );
-}
-
-// A yen less and a yen more than the lots are worth.
-fn around_a_lot() {
-    case(
-        b"preferential 12,345 lots -1 yen",
-        0,
-        true,
-        2,
-        611_202_944,
-        &[2, 9_876, 1_234, 77, 0, 0],
-        row(&[20_000]),
-        row(&[20_000]),
-        row(&[0]),
-    );
-    case(
-        b"preferential 12,345 lots +0 yen",
-        0,
-        true,
-        2,
-        611_202_945,
-        &[2, 9_876, 1_234, 77, 0, 0],
-        row(&[20_000]),
-        row(&[20_000]),
-        row(&[0]),
-    );
-    case(
-        b"preferential 12,345 lots +1 yen",
-        0,
-        true,
-        2,
-        611_202_946,
-        &[2, 9_876, 1_234, 77, 0, 0],
-        row(&[20_000]),
-        row(&[20_000]),
-        row(&[0]),
-    );
-    case(
-        b"drawn 12,345 lots -1 yen",
-        0,
-        false,
-        2,
-        611_202_944,
-        &[2, 9_876, 1_234, 77, 0, 0],
-        row(&[20_000]),
-        row(&[20_000]),
-        row(&[0]),
-    );
-    case(
-        b"drawn 12,345 lots +0 yen",
-        0,
-        false,
-        2,
-        611_202_945,
-        &[2, 9_876, 1_234, 77, 0, 0],
-        row(&[20_000]),
-        row(&[20_000]),
-        row(&[0]),
-    );
-    case(
-        b"drawn 12,345 lots +1 yen",
-        0,
-        false,
-        2,
-        611_202_946,
-        &[2, 9_876, 1_234, 77, 0, 0],
-        row(&[20_000]),
-        row(&[20_000]),
-        row(&[0]),
-    );
-}
-
-// The same where an issue is used up, and where all are.
-fn around_all() {
-    case(
-        b"all of one and 99 of the next -1",
-        0,
-        true,
-        2,
-        19_855_962,
-        &[2, 9_876, 1_234, 77, 0, 0, 2, 10_007, 999, 365, 0, 0],
-        row(&[300, 200]),
-        row(&[300, 200]),
-        row(&[0]),
-    );
-    case(
-        b"all of one and 99 of the next +0",
-        0,
-        true,
-        2,
-        19_855_963,
-        &[2, 9_876, 1_234, 77, 0, 0, 2, 10_007, 999, 365, 0, 0],
-        row(&[300, 200]),
-        row(&[300, 200]),
-        row(&[0]),
-    );
-    case(
-        b"all of one and 99 of the next +1",
-        0,
-        true,
-        2,
-        19_855_964,
-        &[2, 9_876, 1_234, 77, 0, 0, 2, 10_007, 999, 365, 0, 0],
-        row(&[300, 200]),
-        row(&[300, 200]),
-        row(&[0]),
-    );
-    case(
-        b"all of both -1",
-        0,
-        true,
-        2,
-        24_959_947,
-        &[2, 9_876, 1_234, 77, 0, 0, 2, 10_007, 999, 365, 0, 0],
-        row(&[300, 200]),
-        row(&[300, 200]),
-        row(&[0]),
-    );
-    case(
-        b"all of both +0",
-        0,
-        true,
-        2,
-        24_959_948,
-        &[2, 9_876, 1_234, 77, 0, 0, 2, 10_007, 999, 365, 0, 0],
-        row(&[300, 200]),
-        row(&[300, 200]),
-        row(&[0]),
-    );
-    case(
-        b"all of both +1",
-        0,
-        true,
-        2,
-        24_959_949,
-        &[2, 9_876, 1_234, 77, 0, 0, 2, 10_007, 999, 365, 0, 0],
-        row(&[300, 200]),
-        row(&[300, 200]),
-        row(&[0]),
-    );
-}
-
-// Usable lots around whole units.
-fn around_a_unit() {
-    case(
-        b"usable 99999, two units at par",
-        0,
-        false,
-        2,
-        9_999_900_000,
-        &[2, 10_000, 0, 0, 0, 0, 2, 10_000, 0, 0, 0, 0],
-        row(&[99_999, 150_000]),
-        row(&[99_999, 150_000]),
-        row(&[0]),
-    );
-    case(
-        b"usable 100000, two units at par",
-        0,
-        false,
-        2,
-        9_999_900_000,
-        &[2, 10_000, 0, 0, 0, 0, 2, 10_000, 0, 0, 0, 0],
-        row(&[100_000, 150_000]),
-        row(&[100_000, 150_000]),
-        row(&[0]),
-    );
-    case(
-        b"usable 100001, two units at par",
-        0,
-        false,
-        2,
-        9_999_900_000,
-        &[2, 10_000, 0, 0, 0, 0, 2, 10_000, 0, 0, 0, 0],
-        row(&[100_001, 150_000]),
-        row(&[100_001, 150_000]),
-        row(&[0]),
-    );
-    case(
-        b"usable 199999, two units at par",
-        0,
-        false,
-        2,
-        9_999_900_000,
-        &[2, 10_000, 0, 0, 0, 0, 2, 10_000, 0, 0, 0, 0],
-        row(&[199_999, 150_000]),
-        row(&[199_999, 150_000]),
-        row(&[0]),
-    );
-    case(
-        b"usable 200000, two units at par",
-        0,
-        false,
-        2,
-        9_999_900_000,
-        &[2, 10_000, 0, 0, 0, 0, 2, 10_000, 0, 0, 0, 0],
-        row(&[200_000, 150_000]),
-        row(&[200_000, 150_000]),
-        row(&[0]),
-    );
-    case(
-        b"usable 200001, two units at par",
-        0,
-        false,
-        2,
-        9_999_900_000,
-        &[2, 10_000, 0, 0, 0, 0, 2, 10_000, 0, 0, 0, 0],
-        row(&[200_001, 150_000]),
-        row(&[200_001, 150_000]),
-        row(&[0]),
-    );
-}
-
-// Amounts around the target, and each of the three passes.
-fn around_the_target() {
-    case(
-        b"target 10,000,000,000 -1",
-        0,
-        false,
-        2,
-        9_999_999_999,
-        &[2, 10_000, 0, 0, 0, 0, 2, 10_000, 0, 0, 0, 0],
-        row(&[150_000, 120_000]),
-        row(&[150_000, 120_000]),
-        row(&[0]),
-    );
-    case(
-        b"target 10,000,000,000 +0",
-        0,
-        false,
-        2,
-        10_000_000_000,
-        &[2, 10_000, 0, 0, 0, 0, 2, 10_000, 0, 0, 0, 0],
-        row(&[150_000, 120_000]),
-        row(&[150_000, 120_000]),
-        row(&[0]),
-    );
-    case(
-        b"target 10,000,000,000 +1",
-        0,
-        false,
-        2,
-        10_000_000_001,
-        &[2, 10_000, 0, 0, 0, 0, 2, 10_000, 0, 0, 0, 0],
-        row(&[150_000, 120_000]),
-        row(&[150_000, 120_000]),
-        row(&[0]),
-    );
-    case(
-        b"unit above the target, the next issue fits",
-        0,
-        false,
-        2,
-        5_400_000_000,
-        &[2, 10_200, 0, 0, 0, 0, 2, 9_900, 0, 0, 0, 0],
-        row(&[300_000, 200_000]),
-        row(&[300_000, 200_000]),
-        row(&[0]),
-    );
-    case(
-        b"units within the target by a rounding",
-        0,
-        false,
-        2,
-        5_000_000_000,
-        &[2, 9_999, 3, 122, 0, 0, 2, 10_000, 0, 0, 0, 0],
-        row(&[300_000, 200_000]),
-        row(&[300_000, 200_000]),
-        row(&[0]),
-    );
-    case(
-        b"remainders, then what is left",
-        0,
-        false,
-        2,
-        14_999_000_000,
-        &[
-            2,
-            10_500,
-            0,
-            0,
-            0,
-            0,
-            2,
-            10_400,
-            0,
-            0,
-            0,
-            0,
-            2,
-            10_300,
-            0,
-            0,
-            0,
-            0,
-        ],
-        row(&[120_000, 150_000, 130_000]),
-        row(&[120_000, 150_000, 130_000]),
-        row(&[0]),
-    );
-    case(
-        b"three passes through three issues",
-        0,
-        false,
-        2,
-        21_000_000_000,
-        &[
-            2,
-            9_000,
-            0,
-            0,
-            0,
-            0,
-            2,
-            9_100,
-            0,
-            0,
-            0,
-            0,
-            2,
-            9_200,
-            0,
-            0,
-            0,
-            0,
-        ],
-        row(&[240_000, 160_001, 99_999]),
-        row(&[240_000, 160_001, 99_999]),
-        row(&[0]),
-    );
-    case(
-        b"target 0",
-        0,
-        false,
-        2,
-        4_999_999_999,
-        &[2, 10_000, 0, 0, 0, 0, 2, 10_000, 0, 0, 0, 0],
-        row(&[250_000, 1_000]),
-        row(&[250_000, 1_000]),
-        row(&[0]),
-    );
-    case(
-        b"first pass reaches the amount",
-        0,
-        false,
-        2,
-        10_000_000_000,
-        &[
-            2,
-            10_000,
-            0,
-            0,
-            0,
-            0,
-            2,
-            10_000,
-            0,
-            0,
-            0,
-            0,
-            2,
-            10_000,
-            0,
-            0,
-            0,
-            0,
-        ],
-        row(&[120_000, 190_000, 170_000]),
-        row(&[120_000, 190_000, 170_000]),
-        row(&[0]),
-    );
-}
-
-// Equal notified lots, and lots that earlier baskets used.
-fn in_order() {
-    case(
-        b"tie, smaller issue first",
-        0,
-        true,
-        2,
-        150_000,
-        &[
-            2,
-            10_000,
-            0,
-            0,
-            0,
-            0,
-            2,
-            10_000,
-            0,
-            0,
-            0,
-            0,
-            2,
-            10_000,
-            0,
-            0,
-            0,
-            0,
-        ],
-        row(&[3, 3, 3]),
-        row(&[2, 3, 3]),
-        row(&[0]),
-    );
-    case(
-        b"larger notified first, not larger usable",
-        0,
-        true,
-        2,
-        150_000,
-        &[
-            2,
-            10_000,
-            0,
-            0,
-            0,
-            0,
-            2,
-            10_000,
-            0,
-            0,
-            0,
-            0,
-            2,
-            10_000,
-            0,
-            0,
-            0,
-            0,
-        ],
-        row(&[4, 9, 8]),
-        row(&[4, 1, 2]),
-        row(&[0]),
-    );
-    case(
-        b"preferential, nothing deducted",
-        0,
-        true,
-        2,
-        150_000,
-        &[2, 10_000, 0, 0, 0, 0, 2, 10_000, 0, 0, 0, 0],
-        row(&[5, 9]),
-        row(&[5, 3]),
-        row(&[0, 8]),
-    );
-    case(
-        b"drawn, used ones deducted",
-        0,
-        false,
-        2,
-        150_000,
-        &[2, 10_000, 0, 0, 0, 0, 2, 10_000, 0, 0, 0, 0],
-        row(&[5, 9]),
-        row(&[5, 3]),
-        row(&[0, 8]),
-    );
-    case(
-        b"drawn, a tie by what was used",
-        0,
-        false,
-        2,
-        150_000,
-        &[2, 10_000, 0, 0, 0, 0, 2, 10_000, 0, 0, 0, 0],
-        row(&[5, 9]),
-        row(&[5, 3]),
-        row(&[0, 4]),
-    );
-    case(
-        b"drawn, more used than notified",
-        0,
-        false,
-        2,
-        150_000,
-        &[
-            2,
-            10_000,
-            0,
-            0,
-            0,
-            0,
-            2,
-            10_000,
-            0,
-            0,
-            0,
-            0,
-            2,
-            10_000,
-            0,
-            0,
-            0,
-            0,
-        ],
-        row(&[5, 1, 7]),
-        row(&[1, 1, 5]),
-        row(&[9, 0, 2]),
-    );
-}
-
-// Shortages around 10,000,000 yen.
-fn short() {
-    case(
-        b"short of 9999999",
-        0,
-        false,
-        2,
-        29_999_999,
-        &[2, 10_000, 0, 0, 0, 0],
-        row(&[400]),
-        row(&[400]),
-        row(&[0]),
-    );
-    case(
-        b"short of 10000000",
-        0,
-        false,
-        2,
-        30_000_000,
-        &[2, 10_000, 0, 0, 0, 0],
-        row(&[400]),
-        row(&[400]),
-        row(&[0]),
-    );
-    case(
-        b"short of 10000001",
-        0,
-        false,
-        2,
-        30_000_001,
-        &[2, 10_000, 0, 0, 0, 0],
-        row(&[400]),
-        row(&[400]),
-        row(&[0]),
-    );
-    case(
-        b"short of 20000000",
-        0,
-        false,
-        2,
-        40_000_000,
-        &[2, 10_000, 0, 0, 0, 0],
-        row(&[400]),
-        row(&[400]),
-        row(&[0]),
-    );
-    case(
-        b"short of 1 in run 2",
-        1,
-        true,
-        2,
-        50_000_001,
-        &[2, 10_000, 0, 0, 0, 0],
-        row(&[1_000]),
-        row(&[1_000]),
-        row(&[0]),
-    );
-    case(
-        b"short of the whole amount, rounded",
-        1,
-        true,
-        2,
-        9_000_000,
-        &[2, 10_000, 0, 0, 0, 0],
-        row(&[100]),
-        row(&[100]),
-        row(&[0]),
-    );
-    case(
-        b"nothing usable",
-        0,
-        false,
-        2,
-        30_000_000,
-        &[2, 10_000, 0, 0, 0, 0, 2, 10_000, 0, 0, 0, 0],
-        row(&[50, 7]),
-        row(&[0]),
-        row(&[0]),
-    );
-    case(
-        b"covered in full",
-        1,
-        false,
-        2,
-        50_000_000,
-        &[2, 10_000, 0, 0, 0, 0],
-        row(&[1_000]),
-        row(&[1_000]),
-        row(&[0]),
-    );
-    case(
-        b"refilled below another target",
-        0,
-        false,
-        2,
-        15_003_000_000,
-        &[2, 10_000, 0, 0, 0, 0, 2, 10_000, 0, 0, 0, 0],
-        row(&[160_000, 140_000]),
-        row(&[160_000, 140_000]),
-        row(&[0]),
-    );
-}
-
-// A forced issue with notified lots, some of them usable.
-fn in_run_3() {
-    case(
-        b"run 3, enough",
-        2,
-        false,
-        2,
-        50_000_000,
-        &[2, 10_000, 0, 0, 0, 0],
-        row(&[1_000]),
-        row(&[1_000]),
-        row(&[0]),
-    );
-    case(
-        b"forced and usable, one rounding",
-        2,
-        true,
-        2,
-        29_706_096,
-        &[2, 9_876, 1_234, 77, 0, 0],
-        row(&[500]),
-        row(&[500]),
-        row(&[0]),
-    );
-    case(
-        b"forced issue has used lots",
-        2,
-        false,
-        2,
-        1_000_000,
-        &[2, 10_000, 0, 0, 0, 0, 2, 10_000, 0, 0, 0, 0],
-        row(&[9, 3]),
-        row(&[0, 3]),
-        row(&[0]),
-    );
-    case(
-        b"forced tie, smaller issue",
-        2,
-        false,
-        2,
-        1_000_000,
-        &[
-            2,
-            10_000,
-            0,
-            0,
-            0,
-            0,
-            2,
-            10_000,
-            0,
-            0,
-            0,
-            0,
-            2,
-            10_000,
-            0,
-            0,
-            0,
-            0,
-        ],
-        row(&[4, 7, 7]),
-        row(&[4, 2, 7]),
-        row(&[0]),
-    );
-    case(
-        b"marked issue passed over",
-        2,
-        false,
-        2,
-        1_000_000,
-        &[
-            2,
-            10_000,
-            0,
-            0,
-            0,
-            1,
-            2,
-            10_000,
-            0,
-            0,
-            1,
-            0,
-            2,
-            10_000,
-            0,
-            0,
-            0,
-            0,
-        ],
-        row(&[9, 9, 1]),
-        row(&[0, 0, 1]),
-        row(&[0]),
-    );
-    case(
-        b"outside the basket passed over",
-        2,
-        false,
-        2,
-        1_000_000,
-        &[4, 10_000, 0, 0, 0, 0, 3, 10_000, 0, 0, 0, 0],
-        row(&[9, 2]),
-        row(&[0, 2]),
-        row(&[0]),
-    );
-}
-
-// Fewer than five, five and six to choose from; none of kind 2.
-fn never_notified() {
-    case(
-        b"none notified, two of kind 2",
-        2,
-        false,
-        2,
-        120_000,
-        &[
-            1,
-            10_000,
-            0,
-            0,
-            0,
-            0,
-            2,
-            10_000,
-            0,
-            0,
-            0,
-            0,
-            3,
-            10_000,
-            0,
-            0,
-            0,
-            0,
-            2,
-            10_000,
-            0,
-            0,
-            0,
-            0,
-        ],
-        row(&[0]),
-        row(&[0]),
-        row(&[0]),
-    );
-    case(
-        b"exactly five of kind 2",
-        2,
-        false,
-        2,
-        120_000,
-        &[
-            1,
-            10_000,
-            0,
-            0,
-            0,
-            0,
-            2,
-            10_000,
-            0,
-            0,
-            0,
-            0,
-            2,
-            10_000,
-            0,
-            0,
-            0,
-            0,
-            2,
-            10_000,
-            0,
-            0,
-            0,
-            0,
-            3,
-            10_000,
-            0,
-            0,
-            0,
-            0,
-            2,
-            10_000,
-            0,
-            0,
-            0,
-            0,
-            2,
-            10_000,
-            0,
-            0,
-            0,
-            0,
-        ],
-        row(&[0]),
-        row(&[0]),
-        row(&[0]),
-    );
-    case(
-        b"six of kind 2",
-        2,
-        false,
-        2,
-        120_000,
-        &[
-            1,
-            10_000,
-            0,
-            0,
-            0,
-            0,
-            2,
-            10_000,
-            0,
-            0,
-            0,
-            0,
-            2,
-            10_000,
-            0,
-            0,
-            0,
-            0,
-            2,
-            10_000,
-            0,
-            0,
-            0,
-            0,
-            3,
-            10_000,
-            0,
-            0,
-            0,
-            0,
-            2,
-            10_000,
-            0,
-            0,
-            0,
-            0,
-            2,
-            10_000,
-            0,
-            0,
-            0,
-            0,
-            2,
-            10_000,
-            0,
-            0,
-            0,
-            0,
-        ],
-        row(&[0]),
-        row(&[0]),
-        row(&[0]),
-    );
-    case(
-        b"six of kind 2, one marked",
-        2,
-        false,
-        2,
-        120_000,
-        &[
-            1,
-            10_000,
-            0,
-            0,
-            0,
-            0,
-            2,
-            10_000,
-            0,
-            0,
-            0,
-            0,
-            2,
-            10_000,
-            0,
-            0,
-            0,
-            0,
-            2,
-            10_000,
-            0,
-            0,
-            0,
-            1,
-            3,
-            10_000,
-            0,
-            0,
-            0,
-            0,
-            2,
-            10_000,
-            0,
-            0,
-            0,
-            0,
-            2,
-            10_000,
-            0,
-            0,
-            0,
-            0,
-            2,
-            10_000,
-            0,
-            0,
-            0,
-            0,
-        ],
-        row(&[0]),
-        row(&[0]),
-        row(&[0]),
-    );
-    case(
-        b"no unmarked kind 2, five others",
-        2,
-        false,
-        2,
-        120_000,
-        &[
-            2,
-            10_000,
-            0,
-            0,
-            1,
-            0,
-            0,
-            10_000,
-            0,
-            0,
-            0,
-            0,
-            1,
-            10_000,
-            0,
-            0,
-            0,
-            0,
-            3,
-            10_000,
-            0,
-            0,
-            0,
-            0,
-            1,
-            10_000,
-            0,
-            0,
-            0,
-            0,
-            0,
-            10_000,
-            0,
-            0,
-            0,
-            0,
-            3,
-            10_000,
-            0,
-            0,
-            0,
-            0,
-        ],
-        row(&[0]),
-        row(&[0]),
-        row(&[0]),
-    );
-    case(
-        b"no unmarked kind 2, three others",
-        2,
-        false,
-        2,
-        120_000,
-        &[
-            2,
-            10_000,
-            0,
-            0,
-            1,
-            0,
-            4,
-            10_000,
-            0,
-            0,
-            0,
-            0,
-            1,
-            10_000,
-            0,
-            0,
-            0,
-            0,
-            3,
-            10_000,
-            0,
-            0,
-            0,
-            0,
-            0,
-            10_000,
-            0,
-            0,
-            0,
-            0,
-        ],
-        row(&[0]),
-        row(&[0]),
-        row(&[0]),
-    );
-    case(
-        b"basket A",
-        2,
-        false,
-        0,
-        120_000,
-        &[
-            2,
-            10_000,
-            0,
-            0,
-            0,
-            0,
-            0,
-            10_000,
-            0,
-            0,
-            0,
-            0,
-            1,
-            10_000,
-            0,
-            0,
-            0,
-            0,
-            0,
-            10_000,
-            0,
-            0,
-            0,
-            0,
-            0,
-            10_000,
-            0,
-            0,
-            0,
-            0,
-            0,
-            10_000,
-            0,
-            0,
-            0,
-            0,
-            0,
-            10_000,
-            0,
-            0,
-            0,
-            0,
-            0,
-            10_000,
-            0,
-            0,
-            0,
-            0,
-        ],
-        row(&[0]),
-        row(&[0]),
-        row(&[0]),
-    );
-}
-
-// The largest amount.
-fn largest() {
-    case(
-        b"the largest amount and day",
-        0,
-        false,
-        6,
-        10_000_000_000_000,
-        &[
-            0,
-            1_000,
-            20_000,
-            366,
-            0,
-            0,
-            1,
-            1_900,
-            19_400,
-            365,
-            0,
-            0,
-            2,
-            2_800,
-            18_800,
-            364,
-            0,
-            0,
-            3,
-            3_700,
-            18_200,
-            363,
-            0,
-            0,
-            4,
-            4_600,
-            17_600,
-            362,
-            0,
-            0,
-            5,
-            5_500,
-            17_000,
-            361,
-            0,
-            0,
-            6,
-            6_400,
-            16_400,
-            360,
-            0,
-            0,
-            0,
-            7_300,
-            15_800,
-            359,
-            0,
-            0,
-            1,
-            8_200,
-            15_200,
-            358,
-            0,
-            0,
-            2,
-            9_100,
-            14_600,
-            357,
-            0,
-            0,
-            3,
-            10_000,
-            14_000,
-            356,
-            0,
-            0,
-            4,
-            10_900,
-            13_400,
-            355,
-            0,
-            0,
-            5,
-            11_800,
-            12_800,
-            354,
-            0,
-            0,
-            6,
-            12_700,
-            12_200,
-            353,
-            0,
-            0,
-            0,
-            13_600,
-            11_600,
-            352,
-            0,
-            0,
-            1,
-            14_500,
-            11_000,
-            351,
-            0,
-            0,
-            2,
-            15_400,
-            10_400,
-            350,
-            0,
-            0,
-            3,
-            16_300,
-            9_800,
-            349,
-            0,
-            0,
-            4,
-            17_200,
-            9_200,
-            348,
-            0,
-            0,
-            5,
-            18_100,
-            8_600,
-            347,
-            0,
-            0,
-            6,
-            19_000,
-            8_000,
-            346,
-            0,
-            0,
-            0,
-            19_900,
-            7_400,
-            345,
-            0,
-            0,
-            1,
-            20_800,
-            6_800,
-            344,
-            0,
-            0,
-            2,
-            21_700,
-            6_200,
-            343,
-            0,
-            0,
-            3,
-            22_600,
-            5_600,
-            342,
-            0,
-            0,
-            4,
-            23_500,
-            5_000,
-            341,
-            0,
-            0,
-            5,
-            24_400,
-            4_400,
-            340,
-            0,
-            0,
-            6,
-            25_300,
-            3_800,
-            339,
-            0,
-            0,
-            0,
-            26_200,
-            3_200,
-            338,
-            0,
-            0,
-            1,
-            27_100,
-            2_600,
-            337,
-            0,
-            0,
-            2,
-            28_000,
-            2_000,
-            336,
-            0,
-            0,
-            3,
-            28_900,
-            1_400,
-            335,
-            0,
-            0,
-        ],
-        row(
-            &[
-                200_000_000,
-                100_001,
-                200_002,
-                200_000_000,
-                400_004,
-                500_005,
-                200_000_000,
-                700_007,
-                800_008,
-                200_000_000,
-                1_000_010,
-                1_100_011,
-                200_000_000,
-                1_300_013,
-                1_400_014,
-                200_000_000,
-                1_600_016,
-                1_700_017,
-                200_000_000,
-                1_900_019,
-                2_000_020,
-                200_000_000,
-                2_200_022,
-                2_300_023,
-                200_000_000,
-                2_500_025,
-                2_600_026,
-                200_000_000,
-                2_800_028,
-                2_900_029,
-                200_000_000,
-                3_100_031,
-            ],
-        ),
-        row(
-            &[
-                200_000_000,
-                100_001,
-                200_002,
-                200_000_000,
-                400_004,
-                500_005,
-                200_000_000,
-                700_007,
-                800_008,
-                200_000_000,
-                1_000_010,
-                1_100_011,
-                200_000_000,
-                1_300_013,
-                1_400_014,
-                200_000_000,
-                1_600_016,
-                1_700_017,
-                200_000_000,
-                1_900_019,
-                2_000_020,
-                200_000_000,
-                2_200_022,
-                2_300_023,
-                200_000_000,
-                2_500_025,
-                2_600_026,
-                200_000_000,
-                2_800_028,
-                2_900_029,
-                200_000_000,
-                3_100_031,
-            ],
-        ),
-        row(&[0]),
-    );
-    case(
-        b"the largest amount, forced at the lowest price",
-        2,
-        false,
-        6,
-        10_000_000_000_000,
-        &[2, 1_000, 0, 0, 0, 0, 2, 10_000, 0, 0, 0, 0],
-        row(&[1]),
-        row(&[1]),
-        row(&[0]),
-    );
+fn each(text: &[u8]) {
+    let mut at = 0;
+    while at < text.len() {
+        let end = words::find(text, at, b'\n', false);
+        one(&text[at..end]);
+        if end >= text.len() {
+            return;
+        }
+        at = end + 1;
+    }
 }
 
 fn main() {
-    worked_days();
-    around_a_lot();
-    around_all();
-    around_a_unit();
-    around_the_target();
-    in_order();
-    short();
-    in_run_3();
-    never_notified();
-    largest();
+    let mut text = io::large_buffer();
+    let n = io::read_full(0, &mut text);
+    if n >= text.len() {
+        io::write_all(1, b"no case: more than 65,535 bytes\n");
+        return;
+    }
+    each(&text[..n]);
 }

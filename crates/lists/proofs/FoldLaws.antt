@@ -8,14 +8,14 @@ use native.Mathlib.Numerals.{add-one}
 use native.Mathlib.Omega.{arith}
 use mathlib.Core.Bool.{Bool, true, false}
 use mathlib.Core.List.{List, [], _∷_, _++_, map, List·Memᴰ, List·Memᴰ·head, List·Memᴰ·tail, List·Memᴰ·cases-cons, List·Memᴰ·not-nil}
-use lib.ListN.{length, getD, set, take}
+use lib.ListN.{length, getD, set, take, drop}
 use lib.Seq.{take-suc}
 use lib.Dec.{eqb}
 use borrow.Author.Tests.{ne-eqb}
 use Rattle.lists.specs.Tests.{pick}
 use Rattle.lists.specs.Tables.{from, upTo, table, less}
-use Rattle.lists.specs.Folds.{foldl, total, sum, joined, Every}
-use Rattle.lists.proofs.TestLaws.{pick-no}
+use Rattle.lists.specs.Folds.{foldl, total, sum, keep, joined, Every}
+use Rattle.lists.proofs.TestLaws.{pick-no, pick-elim}
 
 -- ---- folds
 
@@ -183,3 +183,38 @@ joined-from-at P f k (suc n) h (suc i) l =
 
 pub joined-at : {A : Type 0} (P : A → Type 0) (n : ℕ) (f : ℕ → List A) → Every P (joined (table n f)) → (i : ℕ) → i < n → Every P (f i)
 joined-at P n f h i l = let e : 0 + i ≡ i = omega arith in subst (λ (j : ℕ). Every P (f j)) e (joined-from-at P f 0 n h i l)
+
+-- ---- of an entry, and of parts of a list
+
+pub every-keep : {A : Type 0} (P : A → Type 0) (t : A → Bool) (xs : List A) → Every P xs → Every P (keep t xs)
+every-keep P t [] h = tt
+every-keep P t (x ∷ xs) h = pick-elim (Every P) (t x) (x ∷ keep t xs) (keep t xs) (h .0, every-keep P t xs (h .1)) (every-keep P t xs (h .1))
+
+-- one entry, or what a read past the end gives
+pub every-get : {A : Type 0} (P : A → Type 0) (d : A) → P d → (xs : List A) → Every P xs → (i : ℕ) → P (getD xs i d)
+every-get P d z [] h i = z
+every-get P d z (x ∷ xs) h zero = h .0
+every-get P d z (x ∷ xs) h (suc i) = every-get P d z xs (h .1) i
+
+pub every-at : {A : Type 0} (P : A → Type 0) (d : A) (xs : List A) → Every P xs → (i : ℕ) → i < length xs → P (getD xs i d)
+every-at P d [] h i l = absurd (not-suc-le-zero l)
+every-at P d (x ∷ xs) h zero l = h .0
+every-at P d (x ∷ xs) h (suc i) l = every-at P d xs (h .1) i (le-of-suc-le-suc l)
+
+pub every-take : {A : Type 0} (P : A → Type 0) (k : ℕ) (l : List A) → Every P l → Every P (take k l)
+every-take P zero l h = tt
+every-take P (suc k) [] h = tt
+every-take P (suc k) (x ∷ xs) h = (h .0, every-take P k xs (h .1))
+
+pub every-drop : {A : Type 0} (P : A → Type 0) (k : ℕ) (l : List A) → Every P l → Every P (drop k l)
+every-drop P zero l h = h
+every-drop P (suc k) [] h = tt
+every-drop P (suc k) (x ∷ xs) h = every-drop P k xs (h .1)
+
+pub keep-cong : {A : Type 0} (f g : A → Bool) (l : List A) → Every (λ x. f x ≡ g x) l → keep f l ≡ keep g l
+keep-cong f g [] h = refl
+keep-cong {A} f g (x ∷ xs) h = rw (h .0) (ap (λ (r : List A). pick (g x) (x ∷ r) r) (keep-cong f g xs (h .1)))
+
+pub keep-none : {A : Type 0} (f : A → Bool) (l : List A) → Every (λ x. f x ≡ false) l → keep f l ≡ []
+keep-none f [] h = refl
+keep-none f (x ∷ xs) h = rw (h .0) (keep-none f xs (h .1))

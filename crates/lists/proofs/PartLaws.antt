@@ -96,7 +96,7 @@ over-block b r at f n fit (inr h) = blocks-agree (over b at r) b f n (length-ove
 -- ---- rows a stride apart
 
 -- two of them do not meet
-rows-apart : (stride p q i m : ℕ) → i < m → m ≤ stride → p ≢ q → (stride * p + i < stride * q) ⊎ (stride * q + m ≤ stride * p + i)
+pub rows-apart : (stride p q i m : ℕ) → i < m → m ≤ stride → p ≢ q → (stride * p + i < stride * q) ⊎ (stride * q + m ≤ stride * p + i)
 rows-apart stride p q i m hi hm ne = go (decLt p q)
   where
     go : Dec (p < q) → (stride * p + i < stride * q) ⊎ (stride * q + m ≤ stride * p + i)

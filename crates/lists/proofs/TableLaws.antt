@@ -41,6 +41,9 @@ zero-from k zero i = refl
 zero-from k (suc n) zero = refl
 zero-from k (suc n) (suc i) = zero-from (suc k) n i
 
+pub getD-upTo : (n i : ℕ) → i < n → getD (upTo n) i 0 ≡ i
+getD-upTo n i h = sym (getD-map (λ k. k) (upTo n) i 0 0 (omega (arith, length-from 0 n))) ∙ getD-table n (λ k. k) i 0 h
+
 pub length-zeros : (n : ℕ) → length (zeros n) ≡ n
 length-zeros n = length-table {A = ℕ} n (λ i. 0)
 

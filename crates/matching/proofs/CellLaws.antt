@@ -1,7 +1,7 @@
 -- Laws of matches that stand in cells. Assumes nothing.
 use mathlib.Core.Path.{_≡_, ap, ap₂, _∙_}
 use mathlib.Core.Logic.{_≢_, inl, inr}
-use mathlib.Core.List.{List, [], _∷_, _++_, append-assoc}
+use mathlib.Core.List.{List, [], _∷_, _++_, append-assoc, append-nil}
 use Prim.Native.Nat.{ℕ, suc, _+_, _-_, _*_, _<_}
 use native.Mathlib.Decide.{decLt}
 use native.Mathlib.Omega.{arith}
@@ -13,7 +13,7 @@ use Rattle.lists.specs.Parts.{over}
 use Rattle.lists.proofs.PartLaws.{table-agree, over-in, over-out}
 use Rattle.rule.specs.Matching.{Match}
 use Rattle.matching.specs.Plans.{matchAt, matchesIn, Room, Wrote}
-use Rattle.matching.proofs.ListLaws.{append-none, table-more, table-append, table-set}
+use Rattle.matching.proofs.ListLaws.{table-more, table-append, table-set}
 
 -- two matches whose cells agree
 pub match-agree : (b c : List ℕ) (j k : ℕ) → ((i : ℕ) → i < 4 → getD b (4 * j + i) 0 ≡ getD c (4 * k + i) 0) → matchAt b j ≡ matchAt c k
@@ -90,4 +90,4 @@ module _ (cells : List ℕ) (n : ℕ) (fit : Room cells n) where
             let none : drop (length cells - 4 * n) (drop (4 * n) cells) ≡ [] =
             drop-of-length-le (drop (4 * n) cells) {i = length cells - 4 * n} (omega (arith, length-drop (4 * n) cells)) in
             let at : 4 * (n + j) + i ≡ length (take (4 * n) cells) + (4 * j + i) = omega (arith, size) in
-            rw (at, none, append-none part) (getD-append-add (take (4 * n) cells) part (4 * j + i) 0)
+            rw (at, none, append-nil part) (getD-append-add (take (4 * n) cells) part (4 * j + i) 0)

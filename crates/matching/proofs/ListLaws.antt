@@ -2,7 +2,7 @@
 use mathlib.Core.Path.{_≡_, refl, sym, ap, _∙_}
 use mathlib.Core.Logic.{_≢_}
 use mathlib.Core.Bool.{Bool, true, false}
-use mathlib.Core.List.{List, [], _∷_, _++_, map, append-assoc}
+use mathlib.Core.List.{List, [], _∷_, _++_, map, append-nil, append-assoc}
 use Prim.Native.Nat.{ℕ, zero, suc, _+_, _-_, _≤_, _<_}
 use native.Mathlib.Decide.{ℕ-discrete}
 use native.Mathlib.Numerals.{add-one}
@@ -13,19 +13,11 @@ use Rattle.lists.specs.Tests.{pick}
 use Rattle.lists.specs.Tables.{from, upTo, table}
 use Rattle.lists.specs.Parts.{block}
 use Rattle.lists.specs.Folds.{keep, Every}
-use Rattle.lists.proofs.TestLaws.{pick-elim}
 use Rattle.lists.proofs.PartLaws.{block-get, length-block}
 use Rattle.lists.proofs.TableLaws.{length-table, getD-table}
 use Rattle.rule.specs.Matching.{with}
-use Rattle.ranking.proofs.InsertLaws.{from-more}
-
-pub append-none : {A : Type 0} (l : List A) → l ++ [] ≡ l
-append-none [] = refl
-append-none {A} (x ∷ xs) = ap (λ (r : List A). x ∷ r) (append-none xs)
-
-map-append : {A B : Type 0} (f : A → B) (xs ys : List A) → map f (xs ++ ys) ≡ map f xs ++ map f ys
-map-append f [] ys = refl
-map-append {A} {B} f (x ∷ xs) ys = ap (λ (r : List B). f x ∷ r) (map-append f xs ys)
+use Rattle.lists.proofs.FoldLaws.{from-more}
+use Rattle.lists.proofs.AppendLaws.{map-append}
 
 -- one entry more
 pub table-more : {A : Type 0} (n : ℕ) (f : ℕ → A) → table (n + 1) f ≡ table n f ++ (f n ∷ [])
@@ -35,7 +27,7 @@ table-more {A} n f =
 
 -- a table in two parts
 pub table-append : {A : Type 0} (n m : ℕ) (f : ℕ → A) → table (n + m) f ≡ table n f ++ table m (λ i. f (n + i))
-table-append n zero f = let e : n + 0 ≡ n = omega arith in ap (λ (k : ℕ). table k f) e ∙ sym (append-none (table n f))
+table-append n zero f = let e : n + 0 ≡ n = omega arith in ap (λ (k : ℕ). table k f) e ∙ sym (append-nil (table n f))
 table-append {A} n (suc m) f =
     let e : n + suc m ≡ n + m + 1 = omega arith in
     ap (λ (k : ℕ). table k f) e ∙ table-more (n + m) f ∙ ap (λ (l : List A). l ++ (f (n + m) ∷ [])) (table-append n m f)
@@ -51,18 +43,6 @@ table-set {A} n k f g v h here others =
     each : (j : ℕ) → j < n → Dec (j ≡ k) → g j ≡ getD (set (table n f) k v) j v
     each j l (yes e) = rw (e, getD-set-same (table n f) k v v (omega (arith, length-table n f))) here
     each j l (no ne) = others j ne ∙ sym (getD-set-other (table n f) k j v v ne ∙ getD-table n f j v l)
-
-pub keep-append : {A : Type 0} (t : A → Bool) (xs ys : List A) → keep t (xs ++ ys) ≡ keep t xs ++ keep t ys
-keep-append t [] ys = refl
-keep-append {A} t (x ∷ xs) ys = go (t x) (keep-append t xs ys)
-  where
-    go : (b : Bool) → keep t (xs ++ ys) ≡ keep t xs ++ keep t ys → pick b (x ∷ keep t (xs ++ ys)) (keep t (xs ++ ys)) ≡ pick b (x ∷ keep t xs) (keep t xs) ++ keep t ys
-    go true e = ap (λ (r : List A). x ∷ r) e
-    go false e = e
-
-pub every-keep : {A : Type 0} (P : A → Type 0) (t : A → Bool) (xs : List A) → Every P xs → Every P (keep t xs)
-every-keep P t [] h = tt
-every-keep P t (x ∷ xs) h = pick-elim (Every P) (t x) (x ∷ keep t xs) (keep t xs) (h .0, every-keep P t xs (h .1)) (every-keep P t xs (h .1))
 
 -- the numbers from i to n - 1
 pub from-first : (i n : ℕ) → i < n → from i (n - i) ≡ i ∷ from (i + 1) (n - (i + 1))

@@ -1,7 +1,7 @@
 -- Laws of meetings: one on the cells, and many of one deliverer. Assumes nothing.
 use mathlib.Core.Path.{_≡_, refl, sym, ap, _∙_}
 use mathlib.Core.Bool.{Bool}
-use mathlib.Core.List.{List, [], _∷_}
+use mathlib.Core.List.{List, [], _∷_, append-nil}
 use Prim.Native.Nat.{ℕ, zero, suc, _+_, _-_, _≤_, _<_, min}
 use native.Mathlib.Nat.{not-suc-le-zero, le-trans, le-refl, zero-min}
 use native.Mathlib.Omega.{arith}
@@ -13,7 +13,6 @@ use Rattle.lists.specs.Folds.{foldl, Every}
 use Rattle.lists.proofs.TableLaws.{length-table}
 use Rattle.rule.specs.Matching.{Match, Left, matched, meet}
 use Rattle.matching.specs.Plans.{matchAt, leftIn, Room, Leaves, Wrote, Meeting}
-use Rattle.matching.proofs.ListLaws.{append-none}
 use Rattle.matching.proofs.CellLaws.{matches-more}
 
 -- the smaller of what the two have left
@@ -26,7 +25,7 @@ less-none l i = let e : getD l i 0 - 0 ≡ getD l i 0 = omega arith in rw e (set
 -- nothing is left of the one or the other: nothing changes
 pub meet-none : (q : Bool) (s : Left) (c : ℕ × ℕ) → smaller s c ≡ 0 → meet q s c ≡ s
 unfolding meet matched
-meet-none q s c e = rw (e, less-none (s .owed) (c .0), less-none (s .due) (c .1), append-none (s .made))
+meet-none q s c e = rw (e, less-none (s .owed) (c .0), less-none (s .due) (c .1), append-nil (s .made))
 
 matched-some : (q : Bool) (c : ℕ × ℕ) (x : ℕ) → 0 < x → matched q c x ≡ record { deliverer = c .0; receiver = c .1; amount = x; preferential = q } ∷ []
 unfolding matched

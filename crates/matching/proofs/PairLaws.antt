@@ -14,7 +14,9 @@ use Rattle.lists.proofs.FoldLaws.{every-from}
 use Rattle.lists.proofs.PartLaws.{grid-get}
 use Rattle.rule.specs.Matching.{Left, meet, with, pairsOf, preferred, preferential}
 use Rattle.matching.specs.Plans.{leftIn, Room, Leaves, Meeting, pairMarks, isPair, meetPairs, Sizes, Pairing, Preferring}
-use Rattle.matching.proofs.ListLaws.{keep-append, every-keep, from-first, with-all}
+use Rattle.lists.proofs.AppendLaws.{keep-append}
+use Rattle.lists.proofs.FoldLaws.{every-keep}
+use Rattle.matching.proofs.ListLaws.{from-first, with-all}
 use Rattle.matching.proofs.WalkLaws.{Walking, walk-begin, walk-room, walk-on, walk-stop, walk-end}
 
 -- ---- one deliverer and one receiver

@@ -11,7 +11,7 @@ use Rattle.lists.specs.Folds.{foldl}
 use Rattle.lists.specs.Order.{sorted}
 use Rattle.lists.proofs.OrderLaws.{length-sorted}
 use Rattle.rule.specs.Matching.{Match, Left, meet, with, turn}
-use Rattle.ranking.proofs.InsertLaws.{every-at}
+use Rattle.lists.proofs.FoldLaws.{every-at}
 use Rattle.matching.specs.Plans.{matchesIn, leftIn, Room, Leaves, begin, Meeting, Turning}
 use Rattle.matching.proofs.ListLaws.{with-all}
 use Rattle.matching.proofs.WalkLaws.{Walking, walk-begin, walk-room, walk-on, walk-stop, walk-end}
@@ -46,7 +46,7 @@ module _ (draw owed₀ due₀ cells₀ : List ℕ) (d : ℕ) where
     pub met-asks : j < length draw → Turning draw owed₀ due₀ cells₀ d → Meeting 0 owed due cells made d (getD draw j 0)
     met-asks h t = record {
       deliverer = omega (arith, t .deliverer, w .owed-size);
-      receiver = omega (arith, every-at (λ p. p < length due₀) 0 draw j (t .receivers) h, w .due-size);
+      receiver = omega (arith, every-at (λ p. p < length due₀) 0 draw (t .receivers) j h, w .due-size);
       room = walk-room false met owed₀ due₀ cells₀ (length draw) toMeet w next (then h) (room-to-meet t);
     }
 

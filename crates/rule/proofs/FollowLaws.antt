@@ -24,7 +24,8 @@ use Rattle.rule.proofs.BookLaws.{SoundBook}
 use Rattle.rule.proofs.OpenLaws.{Openable}
 use Rattle.rule.proofs.CallLaws.{open-passed}
 use Rattle.rule.proofs.AnswerLaws.{granted}
-use Rattle.rule.proofs.JoinLaws.{length-joined, joined-get, joined-grid, shape-rows}
+use Rattle.lists.proofs.AppendLaws.{joined-length}
+use Rattle.rule.proofs.JoinLaws.{joined-get, joined-grid, shape-rows}
 
 -- ---- with no row's condition a call is accepted
 
@@ -63,13 +64,13 @@ open-accepts n m codes terms receipts pairs b h fits =
 -- n rows of m
 block-table : (b : List ℕ) (t : List (List ℕ)) (n m : ℕ) → Shape t n m → n * m ≤ length b → block (over b 0 (joined t)) 0 (n * m) ≡ joined t
 block-table b t n m s fit =
-    let e : length (joined t) ≡ n * m = length-joined m t (shape-rows t n m s) ∙ ap (λ (k : ℕ). m * k) (s .rows) ∙ mul-comm m n in
+    let e : length (joined t) ≡ n * m = joined-length m t (shape-rows t n m s) ∙ ap (λ (k : ℕ). m * k) (s .rows) ∙ mul-comm m n in
     ap (λ (k : ℕ). block (over b 0 (joined t)) 0 k) (sym e) ∙ over-same b (joined t) 0 (omega arith)
 
 grid-table : (t : List (List ℕ)) (n m : ℕ) → Shape t n m → grid (joined t) 0 m n m ≡ t
 grid-table t n m s =
     ap (λ (k : ℕ). grid (joined t) 0 m k m) (sym (s .rows))
-    ∙ joined-grid m (joined t) t (shape-rows t n m s) (omega (arith, length-joined m t (shape-rows t n m s))) (λ i l. refl)
+    ∙ joined-grid m (joined t) t (shape-rows t n m s) (omega (arith, joined-length m t (shape-rows t n m s))) (λ i l. refl)
 
 -- tables of n rows of n, joined each
 module _ (c : List (List (List ℕ))) (n : ℕ) (size : length c ≡ 7) (s : (k : ℕ) → k < 7 → Shape (row c k) n n) where
@@ -83,7 +84,7 @@ module _ (c : List (List (List ℕ))) (n : ℕ) (size : length c ≡ 7) (s : (k 
   flat-length = length-map c joined ∙ size
 
   table-length : (k : ℕ) → k < 7 → length (joined (row c k)) ≡ n * n
-  table-length k l = length-joined n (row c k) (shape-rows (row c k) n n (s k l)) ∙ ap (λ (x : ℕ). n * x) (s k l .rows)
+  table-length k l = joined-length n (row c k) (shape-rows (row c k) n n (s k l)) ∙ ap (λ (x : ℕ). n * x) (s k l .rows)
 
   flat-shape : Shape flat 7 (n * n)
   flat-shape = record { rows = flat-length; cells = λ k l. ap length (flat-row k l) ∙ table-length k l }
@@ -91,7 +92,7 @@ module _ (c : List (List (List ℕ))) (n : ℕ) (size : length c ≡ 7) (s : (k 
   flat-grid : (k : ℕ) → k < 7 → grid (joined flat) (n * n * k) n n n ≡ row c k
   flat-grid k l =
       let rows : Every (λ r. length r ≡ n * n) flat = shape-rows flat 7 (n * n) flat-shape in
-      let all : length (joined flat) ≡ n * n * 7 = length-joined (n * n) flat rows ∙ ap (λ (x : ℕ). n * n * x) flat-length in
+      let all : length (joined flat) ≡ n * n * 7 = joined-length (n * n) flat rows ∙ ap (λ (x : ℕ). n * n * x) flat-length in
       stands-grid (joined flat) (n * n * k) n n n (row c k) (s k l) (le-refl n) (omega (arith, all, mul-le-mul-left (n * n) l, mul-suc (n * n) k))
       (λ p i a b.
       let place : n * n * k + n * p + i ≡ n * n * k + (n * p + i) = omega arith in
@@ -152,8 +153,8 @@ module _ (b : List ℕ) (s : SoundBook b) (sound : soundBook b ≡ true) (three 
     sizes = h .sizes;
     codes-size = h .codes-size;
     terms-size = h .terms-size;
-    receipts-size = length-joined m (view b .state .delivered) (shape-rows (view b .state .delivered) n m (shape .delivered)) ∙ ap (λ (k : ℕ). m * k) (shape .delivered .rows) ∙ mul-comm m n;
-    pairs-size = length-joined (n * n) flat-today (shape-rows flat-today 7 (n * n) today-shape) ∙ ap (λ (k : ℕ). n * n * k) (today-shape .rows) ∙ mul-comm (n * n) 7;
+    receipts-size = joined-length m (view b .state .delivered) (shape-rows (view b .state .delivered) n m (shape .delivered)) ∙ ap (λ (k : ℕ). m * k) (shape .delivered .rows) ∙ mul-comm m n;
+    pairs-size = joined-length (n * n) flat-today (shape-rows flat-today 7 (n * n) today-shape) ∙ ap (λ (k : ℕ). n * n * k) (today-shape .rows) ∙ mul-comm (n * n) 7;
     codes-right = h .codes-right;
     terms-fit = h .terms-fit;
     receipts-fit = ap (receiptsFit n m) (grid-table (view b .state .delivered) n m (shape .delivered)) ∙ receipts-right;

@@ -22,7 +22,8 @@ use Rattle.rule.specs.Filling.{Filled, worth, allLots, matchLots}
 use Rattle.rule.specs.Day.{Day}
 use Rattle.rule.specs.Run.{Allocation, used, allocableOf, allocations, lineList}
 use Rattle.rule.specs.Claims.{MatchEntry, LineEntry, lineOf, noMatch, noLine, lotsIn, usedBefore, usableIn, MatchHolds, RunHolds}
-use Rattle.rule.proofs.SumLaws.{every-at, total-map, total-same}
+use Rattle.lists.proofs.FoldLaws.{every-at}
+use Rattle.rule.proofs.SumLaws.{total-map, total-same}
 use Rattle.rule.proofs.FilledLaws.{Fewest}
 use Rattle.rule.proofs.RunLaws.{Runnable, Allocated, allocated, few-allocations, matched-from, matched-to}
 use Rattle.rule.proofs.RunLists.{noAllocation, Ordered, LineBefore, lines-ordered, lotsIf, Line, few-lines, line-right, line-lots, all-issues}

@@ -4,20 +4,17 @@ use Prim.Native.Nat.{ℕ, zero, suc, _+_, _*_, _≤_, _<_}
 use native.Mathlib.Nat.{not-suc-le-zero, le-of-suc-le-suc, mul-suc, mul-zero, mul-le-mul-left, le-refl}
 use native.Mathlib.Omega.{arith}
 use mathlib.Core.List.{List, [], _∷_, _++_}
-use lib.ListN.{length, getD, length-append, List·getD-append}
+use lib.ListN.{length, getD, List·getD-append}
 use lib.Seq.{getD-append-add}
 use Rattle.lists.specs.Tables.{cell}
 use Rattle.lists.specs.Folds.{joined, Every}
 use Rattle.lists.specs.Parts.{grid, over}
 use Rattle.lists.proofs.FoldLaws.{every-index}
+use Rattle.lists.proofs.AppendLaws.{joined-length}
 use Rattle.lists.proofs.PartLaws.{Shape, over-in, length-over, stands-grid}
-use Rattle.rule.proofs.SumLaws.{every-at}
+use Rattle.lists.proofs.FoldLaws.{every-at}
 
 module _ (w : ℕ) where
-  pub length-joined : (t : List (List ℕ)) → Every (λ r. length r ≡ w) t → length (joined t) ≡ w * length t
-  length-joined [] h = sym (mul-zero w)
-  length-joined (r ∷ rs) h = omega (arith, length-append r (joined rs), h .0, length-joined rs (h .1), mul-suc w (length rs))
-
   -- a cell of row p is there
   pub joined-get : (t : List (List ℕ)) → Every (λ r. length r ≡ w) t → (p i : ℕ) → p < length t → i < w → getD (joined t) (w * p + i) 0 ≡ cell t p i
   joined-get [] h p i l k = absurd (not-suc-le-zero l)
@@ -36,13 +33,13 @@ module _ (w : ℕ) where
       stands-grid c 0 w (length t) w t s (le-refl w) (omega arith)
       (λ p i l k.
       let place : 0 + w * p + i ≡ w * p + i = omega arith in
-      let inside : w * p + i < length (joined t) = omega (arith, length-joined t h, mul-suc w p, mul-le-mul-left w l) in
+      let inside : w * p + i < length (joined t) = omega (arith, joined-length w t h, mul-suc w p, mul-le-mul-left w l) in
       ap (λ (j : ℕ). getD c j 0) place ∙ same (w * p + i) inside ∙ joined-get t h p i l k)
 
   -- written over a list that has room, they are read back
   pub joined-over : (b : List ℕ) (t : List (List ℕ)) → Every (λ r. length r ≡ w) t → w * length t ≤ length b → grid (over b 0 (joined t)) 0 w (length t) w ≡ t
   joined-over b t h fit =
-      let room : 0 + length (joined t) ≤ length b = omega (arith, length-joined t h) in
+      let room : 0 + length (joined t) ≤ length b = omega (arith, joined-length w t h) in
       joined-grid (over b 0 (joined t)) t h (omega (arith, length-over b (joined t) 0 room)) (λ i l.
       let e : i ≡ 0 + i = omega arith in ap (λ (j : ℕ). getD (over b 0 (joined t)) j 0) e ∙ over-in b (joined t) 0 room i l)
 

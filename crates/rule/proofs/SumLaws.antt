@@ -23,21 +23,6 @@ pub every-there : {A : Type 0} (P : A → Type 0) (xs : List A) → ((x : A) →
 every-there P [] h = tt
 every-there P (x ∷ xs) h = (h x (List·Memᴰ·head refl), every-there P xs (λ y m. h y (List·Memᴰ·tail m)))
 
-pub every-keep : {A : Type 0} (P : A → Type 0) (t : A → Bool) (xs : List A) → Every P xs → Every P (keep t xs)
-every-keep P t [] h = tt
-every-keep P t (x ∷ xs) h = pick-elim (Every P) (t x) (x ∷ keep t xs) (keep t xs) (h .0, every-keep P t xs (h .1)) (every-keep P t xs (h .1))
-
--- one entry, or what a read past the end gives
-pub every-get : {A : Type 0} (P : A → Type 0) (d : A) → P d → (xs : List A) → Every P xs → (i : ℕ) → P (getD xs i d)
-every-get P d z [] h i = z
-every-get P d z (x ∷ xs) h zero = h .0
-every-get P d z (x ∷ xs) h (suc i) = every-get P d z xs (h .1) i
-
-pub every-at : {A : Type 0} (P : A → Type 0) (d : A) (xs : List A) → Every P xs → (i : ℕ) → i < length xs → P (getD xs i d)
-every-at P d [] h i l = absurd (not-suc-le-zero l)
-every-at P d (x ∷ xs) h zero l = h .0
-every-at P d (x ∷ xs) h (suc i) l = every-at P d xs (h .1) i (le-of-suc-le-suc l)
-
 pub every-mapped : {A B : Type 0} (P : B → Type 0) (f : A → B) (xs : List A) → Every (λ x. P (f x)) xs → Every P (map f xs)
 every-mapped P f [] h = tt
 every-mapped P f (x ∷ xs) h = (h .0, every-mapped P f xs (h .1))

@@ -32,7 +32,8 @@ use Rattle.rule.proofs.OpenLaws.{Openable, opened-shaped, opened-sound}
 use Rattle.rule.proofs.TradeLaws.{Tradeable, traded-shaped, traded-sound}
 use Rattle.rule.proofs.NoticeLaws.{Noticeable, noticed-shaped, noticed-sound}
 use Rattle.rule.proofs.CallLaws.{passed, left, was-sound, openable, tradeable, noticeable}
-use Rattle.rule.proofs.SumLaws.{every-get, every-mapped}
+use Rattle.lists.proofs.FoldLaws.{every-get}
+use Rattle.rule.proofs.SumLaws.{every-mapped}
 use Rattle.rule.proofs.RunSound.{Marks, marks-of, ran-shaped, ran-sound}
 use Rattle.rule.proofs.RunCallLaws.{RunLeaves, run-sound}
 

@@ -20,13 +20,13 @@ use Rattle.rule.proofs.DrawLaws.{EachOnce}
 use Rattle.rule.proofs.MatchingLaws.{few-matches}
 use Rattle.matching.specs.Plans.{matchAt, Planned}
 use Rattle.matching.proofs.CallerLaws.{signed-one-zero}
-use Rattle.runs.specs.Rows.{Becomes}
-use Rattle.runs.specs.Stock.{insideOf, Issues}
-use Rattle.runs.specs.Filled.{participantsIn, issuesIn, positionsIn, planIn, Plannable}
-use Rattle.runs.specs.Running.{doneTo, BookedTo, Running, BasketAsks, AllocateAsks}
+use Rattle.rows.specs.Rows.{Becomes}
+use Rattle.stock.specs.Stock.{insideOf, Issues}
+use Rattle.matched.specs.Filled.{participantsIn, issuesIn, positionsIn, planIn, Plannable}
+use Rattle.runs.specs.Running.{doneTo, BookedTo, Done, BasketAsks, AllocateAsks}
 use Rattle.runs.proofs.ReadLaws.{sized-kept, participants-kept, issues-kept, terms-in-kept, plan-kept, nothing-covered}
 
-module _ (k : ℕ) (b draw rates allocable used′ matches lines : List ℕ) (m l : ℕ) (s : BasketAsks k b draw rates allocable used′ matches lines m l) where
+module _ (k : ℕ) (b draw rates allocable orders used′ matches lines : List ℕ) (m l : ℕ) (s : BasketAsks k b draw rates allocable orders used′ matches lines m l) where
   abbrev b₀ : List ℕ
   b₀ = s .b₀
 
@@ -100,7 +100,7 @@ module _ (k : ℕ) (b draw rates allocable used′ matches lines : List ℕ) (m 
     -- ---- the matches
 
     pub allocate-asked : {cells before : List ℕ} {count : ℕ} → Planned (planIn b draw k) cells count → before ≡ block used′ 0 384
-        → AllocateAsks k b cells count rates inside allocable before used′ matches lines m l
+        → AllocateAsks k b cells count rates inside allocable before orders used′ matches lines m l
     allocate-asked {cells} {before} {count} p e = record {
       b₀ = s .b₀;
       draw = draw;
@@ -123,9 +123,9 @@ module _ (k : ℕ) (b draw rates allocable used′ matches lines : List ℕ) (m 
         zero-first x = omega arith
 
     -- what the loop leaves
-    pub basket-done : {cells before : List ℕ} {count : ℕ} → Planned (planIn b draw k) cells count → before ≡ block used′ 0 384 → {b′ used″ matches′ lines′ : List ℕ} {m′ l′ : ℕ}
-        → ((t : AllocateAsks k b cells count rates inside allocable before used′ matches lines m l)
-        → Running (t .b₀) (t .m₀) (t .l₀) (doneTo (view (t .b₀)) (t .draw) (k + 1)) b′ used″ matches′ lines′ m′ l′)
-        → Running (s .b₀) (s .m₀) (s .l₀) (doneTo (view (s .b₀)) draw (k + 1)) b′ used″ matches′ lines′ m′ l′
+    pub basket-done : {cells before : List ℕ} {count : ℕ} → Planned (planIn b draw k) cells count → before ≡ block used′ 0 384 → {b′ orders′ used″ matches′ lines′ : List ℕ} {m′ l′ : ℕ}
+        → ((t : AllocateAsks k b cells count rates inside allocable before orders used′ matches lines m l)
+        → Done (t .b₀) (t .m₀) (t .l₀) (doneTo (view (t .b₀)) (t .draw) (k + 1)) b′ orders′ used″ matches′ lines′ m′ l′)
+        → Done (s .b₀) (s .m₀) (s .l₀) (doneTo (view (s .b₀)) draw (k + 1)) b′ orders′ used″ matches′ lines′ m′ l′
     unfolding allocate-asked
     basket-done p e f = f (allocate-asked p e)

@@ -1,10 +1,4 @@
 -- Laws that the proofs cite.
-pub mod RowLaws
-pub mod StockLaws
-pub mod ListingLaws
-pub mod BookingLaws
-pub mod PlanLaws
-pub mod FillLaws
 pub mod DoneLaws
 pub mod SignLaws
 pub mod BookedLaws

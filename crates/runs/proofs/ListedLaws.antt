@@ -15,15 +15,16 @@ use Rattle.lists.specs.Tables.{upTo, zeros}
 use Rattle.lists.specs.Folds.{keep, joined, Every}
 use Rattle.lists.specs.Parts.{over}
 use Rattle.lists.proofs.TestLaws.{pick-yes, pick-no}
+use Rattle.lists.proofs.FoldLaws.{every-append}
 use Rattle.lists.proofs.AppendLaws.{map-append, joined-append, joined-length, over-more}
 use Rattle.rule.specs.Filling.{Filled, allLots}
 use Rattle.rule.specs.Run.{Allocation, matchEntry, linesOf, linesFrom, matchList, lineList}
 use Rattle.rule.proofs.RunLists.{match-sizes, length-matchList}
-use Rattle.filling.specs.Turns.{padded}
+use Rattle.filling.specs.Rows.{padded}
 use Rattle.filling.specs.Match.{FilledAs}
 use Rattle.filling.specs.declared.Filling.{Filling}
-use Rattle.runs.specs.Listed.{entryOf, lineFor, linesTo, linesFor, Listed}
-use Rattle.runs.specs.Filled.{lotsWith}
+use Rattle.records.specs.Listed.{entryOf, lineFor, linesTo, linesFor, Listed}
+use Rattle.matched.specs.Filled.{lotsWith}
 
 -- ---- the definition's lists
 
@@ -54,15 +55,11 @@ lines-three : (j : ℕ) (a : Allocation) (is : List ℕ) → Every (λ r. length
 lines-three j a [] = tt
 lines-three j a (i ∷ is) = (refl, lines-three j a is)
 
-every-append′ : (P : List ℕ → Type 0) (xs ys : List (List ℕ)) → Every P xs → Every P ys → Every P (xs ++ ys)
-every-append′ P [] ys h k = k
-every-append′ P (x ∷ xs) ys h k = (h .0, every-append′ P xs ys (h .1) k)
-
 from-three : (j : ℕ) (done : List Allocation) → Every (λ r. length r ≡ 3) (linesFrom j done)
 unfolding linesFrom linesOf
 from-three j [] = tt
 from-three j (a ∷ done) =
-    every-append′ (λ r. length r ≡ 3) (linesOf j a) (linesFrom (suc j) done)
+    every-append (λ r. length r ≡ 3) (linesOf j a) (linesFrom (suc j) done)
     (lines-three j a (keep (λ i. ltb 0 (allLots (a .filled) i)) (upTo (length (a .filled .lots))))) (from-three (suc j) done)
 
 pub match-cells : (done : List Allocation) → length (joined (matchList done)) ≡ 7 * length done

@@ -5,7 +5,6 @@ use mathlib.Core.List.{List, [], _∷_, _++_}
 use Prim.Native.Nat.{ℕ, _+_, _-_, _*_, _≤_, _<_}
 use native.Mathlib.Omega.{arith}
 use lib.ListN.{length, getD, take}
-use lib.Seq.{ext-getD, length-take-le, getD-take}
 use lib.Dec.{eqb}
 use Rattle.lists.specs.Tests.{pick}
 use Rattle.lists.specs.Tables.{table, row, cell}
@@ -13,11 +12,11 @@ use Rattle.lists.specs.Folds.{Every}
 use Rattle.lists.specs.Order.{ranked}
 use Rattle.lists.specs.Parts.{block}
 use Rattle.lists.proofs.TableLaws.{getD-table, length-table}
-use Rattle.lists.proofs.PartLaws.{block-get, length-block, table-agree}
+use Rattle.lists.proofs.PartLaws.{blocks-agree, table-agree}
 use Rattle.rule.specs.Value.{Terms, noTerms}
 use Rattle.rule.specs.Baskets.{within}
 use Rattle.rule.specs.Matching.{Match}
-use Rattle.rule.specs.Filling.{filled, forcedIssue}
+use Rattle.rule.specs.Filling.{Filled, filled, forcedIssue}
 use Rattle.rule.specs.Day.{Day}
 use Rattle.rule.specs.Run.{Allocation, used, usedTable, allocableOf, usable, issueOrder, allocate, basketPlan}
 use Rattle.rule.specs.Layout.{noticesAt, view}
@@ -26,13 +25,14 @@ use Rattle.rule.proofs.RunLaws.{Runnable, Allocated, allocated}
 use Rattle.rule.proofs.RunLots.{used-append, used-cell}
 use Rattle.matching.specs.Plans.{matchAt}
 use Rattle.matching.proofs.CallerLaws.{planned-at}
-use Rattle.filling.specs.Ordered.{orderKey}
-use Rattle.filling.proofs.OrderLaws.{ranked-alike}
-use Rattle.runs.specs.Stock.{termsIn, insideOf, usableOf}
-use Rattle.runs.specs.Filled.{participantsIn, issuesIn, bookTerms, usableIn, filledIn, Loaded}
+use Rattle.ordering.specs.Ordered.{orderKey}
+use Rattle.lists.proofs.OrderLaws.{ranked-alike}
+use Rattle.stock.specs.Stock.{termsIn, insideOf, usableOf}
+use Rattle.matched.specs.Filled.{participantsIn, issuesIn, bookTerms, usableIn, OrderedAt, OrderFor, UsableLots, filledIn}
+use Rattle.matched.proofs.OrderLaws.{ordered-moved}
 use Rattle.runs.specs.Running.{doneTo, doneIn, doneAt, Start, Running, Tables, Planning}
 use Rattle.runs.proofs.DoneLaws.{nextOf, done-next, Part, part-at, part-every}
-use Rattle.runs.proofs.ReadLaws.{terms-read, notices-read, runs-read, allocable-read, terms-are, low-kept, issues-kept, terms-kept}
+use Rattle.runs.proofs.ReadLaws.{terms-read, notices-read, runs-read, allocable-read, terms-are, low-kept, issues-kept, terms-kept, notices-kept}
 
 pub runnable : (b draw m₀ l₀ : List ℕ) → Start b draw m₀ l₀ → Runnable (view b) draw
 unfolding view
@@ -113,7 +113,7 @@ module _ (b draw m₀ l₀ : List ℕ) (S : Start b draw m₀ l₀) (k : ℕ) (b
   -- ---- filled as the definition fills it
 
   module _ (rates allocable : List ℕ) (T : Tables b rates allocable) (c used′ matches lines : List ℕ) (n q : ℕ) (R : Running b m₀ l₀ done c used′ matches lines n q)
-      (notified order : List ℕ) (L : Loaded b before d (eqb (getD cells (4 * j + 3) 0) 1) notified order) where
+      (usable′ : List ℕ) (all : ℕ) (U : UsableLots c cells j inside allocable used′ usable′ all) (orders order : List ℕ) (sorted : Bool) (O : OrderFor c before cells j all orders order sorted) where
     used-here : (i : ℕ) → i < m → getD used′ (32 * d + i) 0 ≡ cell (usedTable (view b .given) (doneTo (view b) draw k)) d i + used (doneIn (view b) draw k j) d i
     unfolding doneAt view
     used-here i h =
@@ -145,20 +145,28 @@ module _ (b draw m₀ l₀ : List ℕ) (S : Start b draw m₀ l₀) (k : ℕ) (b
         ap₂ (λ (x z : ℕ). x - z) (sym (notices-read b d i deliverer-of-day h))
         (P .before-at d i deliverer-of-day h ∙ sym (used-cell (view b .given) (doneTo (view b) draw k) d i deliverer-of-day h)))
 
-    order-same : take (issuesIn c) order ≡ issueOrder (view b) (usedTable (view b .given) (doneTo (view b) draw k)) (eqb (getD cells (4 * j + 3) 0) 1) d
-    order-same =
-        ap (λ (x : ℕ). take x order) (issues-kept b (S .book) done c (R .booked)) ∙ L .ordered .cells ∙ order-of (eqb (getD cells (4 * j + 3) 0) 1)
+    issues-same : issuesIn c ≡ m
+    issues-same = issues-kept b (S .book) done c (R .booked)
 
-    notified-same : take (issuesIn c) notified ≡ row (view b .state .notices) d
+    notice-same : (i : ℕ) → i < m → getD c (noticesAt + 32 * d + i) 0 ≡ getD b (noticesAt + 32 * d + i) 0
+    notice-same i h =
+        notices-kept b (S .book) done c (R .booked) (noticesAt + 32 * d + i) (omega arith) (omega (arith, deliverer-of-day, S .book .sizes .few, S .book .sizes .most))
+
+    abbrev pref : Bool
+    pref = eqb (getD cells (4 * j + 3) 0) 1
+
+    abbrev o : List ℕ
+    o = issueOrder (view b) (usedTable (view b .given) (doneTo (view b) draw k)) pref d
+
+    order-same : OrderedAt c before cells j order → take (issuesIn c) order ≡ o
+    order-same h =
+        ap (λ (x : ℕ). take x order) issues-same ∙ ordered-moved c b before d pref order issues-same (λ i l. notice-same i (omega (arith, issues-same))) h .cells ∙ order-of pref
+
+    notified-same : block c (noticesAt + 32 * d) (issuesIn c) ≡ row (view b .state .notices) d
     unfolding view
     notified-same =
-        let few : m ≤ 32 = S .book .sizes .most in
-        let room : noticesAt + 32 * d + m ≤ length b = omega (arith, deliverer-of-day, S .book .sizes .few, S .book .readable .size) in
-        let part : length (take m notified) ≡ m = length-take-le m notified (omega (arith, L .wide)) in
-        let there : length (block b (noticesAt + 32 * d) m) ≡ m = length-block b (noticesAt + 32 * d) m room in
-        ap (λ (x : ℕ). take x notified) (issues-kept b (S .book) done c (R .booked))
-        ∙ ext-getD 0 (take m notified) (block b (noticesAt + 32 * d) m) (part ∙ sym there) (λ i h.
-        getD-take m notified i 0 (omega arith) ∙ L .lots i (omega arith) ∙ sym (block-get b (noticesAt + 32 * d) m i (omega arith)))
+        ap (block c (noticesAt + 32 * d)) issues-same
+        ∙ blocks-agree c b (noticesAt + 32 * d) m (R .booked .size ∙ sym (S .book .readable .size)) notice-same
         ∙ sym (getD-table (participantsIn b) (λ p. block b (noticesAt + 32 * p) m) d [] deliverer-of-day)
 
     terms-same : bookTerms c ≡ view b .given .terms
@@ -167,14 +175,22 @@ module _ (b draw m₀ l₀ : List ℕ) (S : Start b draw m₀ l₀) (k : ℕ) (b
     runs-same : getD c 2 0 ≡ view b .state .runs
     runs-same = low-kept b (S .book) done c (R .booked) 2 (omega arith) ∙ sym (runs-read b)
 
-    pub next-filled : filledIn c k cells j inside allocable used′ notified order ≡ next .filled
+    abbrev amount : ℕ
+    amount = getD cells (4 * j + 2) 0
+
+    -- the order matters only where it is sorted
+    abbrev with-order : List ℕ → Filled
+    with-order x = filled (getD c 2 0) pref (bookTerms c) (take (issuesIn c) usable′) x (forcedIssue k (bookTerms c) (block c (noticesAt + 32 * d) (issuesIn c))) amount
+
+    order-right : (t : Bool) → sorted ≡ t → with-order (take (issuesIn c) order) ≡ with-order o
+    order-right true e = ap with-order (order-same (O .ordered e))
+    order-right false e = O .idle e .same pref (bookTerms c) (take (issuesIn c) usable′) (take (issuesIn c) order) o _ (U .worth-is)
+
+    pub next-filled : filledIn c k cells j usable′ order ≡ next .filled
     unfolding filledIn nextOf allocate matchAt
     next-filled =
-        let pref : Bool = eqb (getD cells (4 * j + 3) 0) 1 in
-        let amount : ℕ = getD cells (4 * j + 2) 0 in
-        let before′ : List (List ℕ) = usedTable (view b .given) (doneTo (view b) draw k) in
-        let u : List ℕ = usable (view b) k before′ (doneIn (view b) draw k j) d in
-        let o : List ℕ = issueOrder (view b) before′ pref d in
-        ap₂ (λ (r : ℕ) (x : List ℕ). filled r pref (bookTerms c) x (take (issuesIn c) order) (forcedIssue k (bookTerms c) (take (issuesIn c) notified)) amount) runs-same usable-same
-        ∙ ap₂ (λ (x : List ℕ) (f : List ℕ). filled (view b .state .runs) pref (bookTerms c) u x (forcedIssue k (bookTerms c) f) amount) order-same notified-same
+        let u : List ℕ = usable (view b) k (usedTable (view b .given) (doneTo (view b) draw k)) (doneIn (view b) draw k j) d in
+        order-right sorted refl
+        ∙ ap₂ (λ (r : ℕ) (x : List ℕ). filled r pref (bookTerms c) x o (forcedIssue k (bookTerms c) (block c (noticesAt + 32 * d) (issuesIn c))) amount) runs-same (U .row ∙ usable-same)
+        ∙ ap (λ (f : List ℕ). filled (view b .state .runs) pref (bookTerms c) u o (forcedIssue k (bookTerms c) f) amount) notified-same
         ∙ ap (λ (ts : List Terms). filled (view b .state .runs) pref ts u o (forcedIssue k ts (row (view b .state .notices) d)) amount) terms-same

@@ -26,28 +26,30 @@ use Rattle.rule.proofs.BookLaws.{SoundBook}
 use Rattle.rule.proofs.LayoutLaws.{Shaped, Holds, view-shaped, view-holds, signed-cell, given-kept, stored-is, outside-sizes, outside-position, outside-notice, outside-pair, outside-tally}
 use Rattle.rule.proofs.RunLaws.{Runnable}
 use Rattle.rule.proofs.RunSound.{ran-shaped}
-use Rattle.filling.specs.Rated.{Termed}
-use Rattle.filling.proofs.TermLaws.{sound-termed}
-use Rattle.runs.specs.Rows.{Becomes}
-use Rattle.runs.specs.Stock.{Rows}
-use Rattle.runs.specs.Booked.{positionAt, markAt, tallyOf}
-use Rattle.runs.specs.Filled.{participantsIn, issuesIn, Sized}
-use Rattle.runs.specs.Running.{doneTo, BookedTo, Start, Running, BasketAsks}
+use Rattle.value.specs.Rated.{Termed}
+use Rattle.value.proofs.TermLaws.{sound-termed}
+use Rattle.rows.specs.Rows.{Becomes}
+use Rattle.stock.specs.Stock.{Rows}
+use Rattle.records.specs.Booked.{positionAt, markAt, tallyOf}
+use Rattle.matched.specs.Filled.{participantsIn, issuesIn, Sized}
+use Rattle.runs.specs.Running.{doneTo, BookedTo, Start, Running, Done, BasketAsks}
 use Rattle.runs.specs.Ran.{BasketsAsk, BasketsDone, Cleared, Ran}
-use Rattle.runs.proofs.RowLaws.{lent-size, lent-in, lent-out}
-use Rattle.runs.proofs.BookingLaws.{where-is}
+use Rattle.rows.proofs.RowLaws.{lent-size, lent-in, lent-out}
+use Rattle.records.proofs.BookingLaws.{where-is}
+use Rattle.ordering.specs.Ordered.{Started}
+use Rattle.matched.proofs.OrderLaws.{orders-begin}
 use Rattle.runs.proofs.DoneLaws.{done-none, done-all}
 use Rattle.runs.proofs.BookedLaws.{booked-none}
 use Rattle.runs.proofs.ReadLaws.{terms-are, low-kept, participants-kept, issues-kept, sized-kept}
-use Rattle.runs.proofs.ListingLaws.{over-none}
+use Rattle.records.proofs.ListingLaws.{over-none}
 use Rattle.runs.proofs.NextLaws.{runnable}
 
 -- ---- the seven baskets
 
 -- those before k are done
-pub record Baskets (b draw matches₀ lines₀ : List ℕ) (c used′ matches lines : List ℕ) (m l k : ℕ) : Type 0 where
+pub record Baskets (b draw matches₀ lines₀ : List ℕ) (c orders used′ matches lines : List ℕ) (m l k : ℕ) : Type 0 where
   pub here : k ≤ 7
-  pub running : Running b matches₀ lines₀ (doneTo (view b) draw k) c used′ matches lines m l
+  pub done : Done b matches₀ lines₀ (doneTo (view b) draw k) c orders used′ matches lines m l
 
 module _ (b draw rates allocable matches₀ lines₀ : List ℕ) (h : BasketsAsk b draw rates allocable matches₀ lines₀) where
   nothing-done : Running b matches₀ lines₀ [] b (zeros 384) matches₀ lines₀ 0 0
@@ -64,32 +66,35 @@ module _ (b draw rates allocable matches₀ lines₀ : List ℕ) (h : BasketsAsk
     line-count = refl;
   }
 
-  pub baskets-none : Baskets b draw matches₀ lines₀ b (zeros 384) matches₀ lines₀ 0 0 0
-  baskets-none = record {
+  pub baskets-none : {orders : List ℕ} → Started (zeros 384) orders → Baskets b draw matches₀ lines₀ b orders (zeros 384) matches₀ lines₀ 0 0 0
+  baskets-none {orders} w = record {
     here = omega arith;
-    running = subst (λ (x : List Allocation). Running b matches₀ lines₀ x b (zeros 384) matches₀ lines₀ 0 0) (sym (done-none (view b) draw)) nothing-done;
+    done = record {
+      running = subst (λ (x : List Allocation). Running b matches₀ lines₀ x b (zeros 384) matches₀ lines₀ 0 0) (sym (done-none (view b) draw)) nothing-done;
+      kept = orders-begin (h .start .book .sizes .most) (w .cells) (w .size ∙ length-zeros 384);
+    };
   }
 
-  module _ {c used′ matches lines : List ℕ} {m l k : ℕ} (w : Baskets b draw matches₀ lines₀ c used′ matches lines m l k) where
-    pub basket-asked : k < 7 → BasketAsks k c draw rates allocable used′ matches lines m l
-    basket-asked x = record { b₀ = b; m₀ = matches₀; l₀ = lines₀; begun = record { start = h .start; basket = x; tables = h .tables; running = w .running } }
+  module _ {c orders used′ matches lines : List ℕ} {m l k : ℕ} (w : Baskets b draw matches₀ lines₀ c orders used′ matches lines m l k) where
+    pub basket-asked : k < 7 → BasketAsks k c draw rates allocable orders used′ matches lines m l
+    basket-asked x = record { b₀ = b; m₀ = matches₀; l₀ = lines₀; begun = record { start = h .start; basket = x; tables = h .tables; running = w .done .running; kept = w .done .kept } }
 
-    pub baskets-more : (x : k < 7) {c′ used″ matches′ lines′ : List ℕ} {m′ l′ : ℕ}
-        → ((s : BasketAsks k c draw rates allocable used′ matches lines m l) → Running (s .b₀) (s .m₀) (s .l₀) (doneTo (view (s .b₀)) draw (k + 1)) c′ used″ matches′ lines′ m′ l′)
-        → Baskets b draw matches₀ lines₀ c′ used″ matches′ lines′ m′ l′ (k + 1)
+    pub baskets-more : (x : k < 7) {c′ orders′ used″ matches′ lines′ : List ℕ} {m′ l′ : ℕ}
+        → ((s : BasketAsks k c draw rates allocable orders used′ matches lines m l) → Done (s .b₀) (s .m₀) (s .l₀) (doneTo (view (s .b₀)) draw (k + 1)) c′ orders′ used″ matches′ lines′ m′ l′)
+        → Baskets b draw matches₀ lines₀ c′ orders′ used″ matches′ lines′ m′ l′ (k + 1)
     unfolding basket-asked
-    baskets-more x f = record { here = omega arith; running = f (basket-asked x) }
+    baskets-more x f = record { here = omega arith; done = f (basket-asked x) }
 
     pub baskets-all : 7 ≤ k → BasketsDone b draw matches₀ lines₀ c matches lines m l
     baskets-all x =
         let e : k ≡ 7 = omega (arith, w .here) in
         record {
           used = used′;
-          running = subst (λ (d : List Allocation). Running b matches₀ lines₀ d c used′ matches lines m l) (ap (doneTo (view b) draw) e ∙ done-all (view b) draw) (w .running);
+          running = subst (λ (d : List Allocation). Running b matches₀ lines₀ d c used′ matches lines m l) (ap (doneTo (view b) draw) e ∙ done-all (view b) draw) (w .done .running);
         }
 
     pub baskets-book : length c ≡ length b
-    baskets-book = w .running .booked .size ∙ sym (h .start .book .readable .size)
+    baskets-book = w .done .running .booked .size ∙ sym (h .start .book .readable .size)
 
 -- ---- the notices
 

@@ -25,10 +25,10 @@ use Rattle.rule.specs.Run.{Allocation, usedTable, allocate, basketPlan, basket,
 use Rattle.rule.specs.Layout.{termsAt, receiptsAt, pairsAt, positionsAt, noticesAt, todayAt, plus, minus, view, signed}
 use Rattle.rule.proofs.BookLaws.{SoundBook}
 use Rattle.matching.proofs.ListLaws.{block-block}
-use Rattle.filling.specs.Rated.{termsIn as termsOfBlock}
-use Rattle.runs.specs.Stock.{termsIn, allocableIn}
-use Rattle.runs.specs.Booked.{positionAt}
-use Rattle.runs.specs.Filled.{participantsIn, issuesIn, Sized, positionsIn, planIn, bookTerms}
+use Rattle.value.specs.Rated.{termsIn as termsOfBlock}
+use Rattle.stock.specs.Stock.{termsIn, allocableIn}
+use Rattle.records.specs.Booked.{positionAt}
+use Rattle.matched.specs.Filled.{participantsIn, issuesIn, Sized, positionsIn, planIn, bookTerms}
 use Rattle.runs.specs.Running.{doneTo, BookedTo}
 use Rattle.runs.proofs.DoneLaws.{to-more}
 use Rattle.runs.proofs.BookedLaws.{booked-none}

@@ -1,7 +1,7 @@
 -- Laws of a run in progress: what the next match asks, and what it leaves. Assumes nothing.
 use mathlib.Core.Path.{_≡_, refl, sym, ap, ap₂, _∙_, subst}
 use mathlib.Core.Logic.{_≢_}
-use mathlib.Core.Bool.{Bool, _&&_}
+use mathlib.Core.Bool.{Bool, true, _&&_}
 use mathlib.Core.List.{List, [], _∷_, _++_}
 use Prim.Native.Nat.{ℕ, _+_, _-_, _*_, _≤_, _<_}
 use native.Mathlib.Decide.{ℕ-discrete}
@@ -13,7 +13,6 @@ use borrow.Author.Tests.{eq-eqb, ne-eqb}
 use Rattle.lists.specs.Tests.{pick}
 use Rattle.lists.specs.Folds.{joined}
 use Rattle.lists.specs.Parts.{over}
-use Rattle.lists.specs.Order.{ranked}
 use Rattle.lists.proofs.TestLaws.{go}
 use Rattle.lists.proofs.PartLaws.{length-over}
 use Rattle.rule.specs.Value.{Terms}
@@ -25,23 +24,23 @@ use Rattle.rule.proofs.RunLaws.{Runnable, Allocated, matched-from, few-allocati
 use Rattle.rule.proofs.RunLots.{used-most, lots-from-most}
 use Rattle.rule.proofs.RunLists.{few-lines}
 use Rattle.matching.specs.Plans.{matchAt}
-use Rattle.filling.specs.Rated.{Rates}
+use Rattle.value.specs.Rated.{Rates}
 use Rattle.filling.specs.Match.{FilledAs}
 use Rattle.filling.specs.declared.Filling.{Filling}
 use Rattle.filling.proofs.MatchLaws.{allocable-most}
 use Rattle.filling.proofs.RowLaws.{length-padded}
-use Rattle.filling.specs.Ordered.{orderKey}
-use Rattle.filling.proofs.OrderLaws.{ordered-inside, ranked-alike}
-use Rattle.runs.specs.Stock.{termsIn, allocableIn}
-use Rattle.runs.specs.Listed.{entryOf, linesFor}
-use Rattle.runs.specs.Booked.{YenMoved, LotsMoved}
-use Rattle.runs.specs.Filled.{participantsIn, issuesIn, Loadable, Loaded, Fillable, filledIn, lotsWith, Writable, Wrote}
+use Rattle.ordering.specs.Ordered.{Arranged, Ordered}
+use Rattle.stock.specs.Stock.{termsIn, allocableIn}
+use Rattle.records.specs.Listed.{entryOf, linesFor}
+use Rattle.records.specs.Booked.{YenMoved, LotsMoved}
+use Rattle.matched.specs.Filled.{participantsIn, issuesIn, bookTerms, Orders, keyIn, OrderedAt, OrderAsked, OrderFor, UsableAsked, UsableLots, Fillable, filledIn, lotsWith, Writable, Wrote}
+use Rattle.matched.proofs.OrderLaws.{ordered-moved}
 use Rattle.runs.specs.Running.{doneAt, Start, Running, Tables, Planning}
 use Rattle.runs.proofs.DoneLaws.{nextOf, Part, part-total, part-length}
 use Rattle.runs.proofs.BookedLaws.{booked-more, more-yes, more-no}
 use Rattle.runs.proofs.ReadLaws.{notices-read, allocable-read, sized-kept, issues-kept, terms-kept, notices-kept}
 use Rattle.runs.proofs.NextLaws.{runnable, next, next-is, next-part, next-allocated, next-deliverer, next-receiver, next-amount, deliverer-of-day, receiver-of-day, next-filled}
-use Rattle.runs.proofs.ListingLaws.{cells-for}
+use Rattle.records.proofs.ListingLaws.{cells-for}
 use Rattle.runs.proofs.ListedLaws.{lines-append, lines-more, entry-is, front-is, all-lots, all-size, lines-are, entries-more, rows-more}
 
 module _ (b draw m₀ l₀ : List ℕ) (S : Start b draw m₀ l₀) (k : ℕ) (basket : k < 7) (cells : List ℕ) (count : ℕ) (inside before : List ℕ)
@@ -95,14 +94,17 @@ module _ (b draw m₀ l₀ : List ℕ) (S : Start b draw m₀ l₀) (k : ℕ) (b
         S .book .day .owed (a .basket) (a .match .deliverer) (z .basket) (z .deliverer),
       )
 
+  lots-notified : (i : ℕ) → i < m → getD b (noticesAt + 32 * d + i) 0 ≤ 200_000_000
+  unfolding view
+  lots-notified i q = omega (arith, notices-read b d i deliverer q, S .book .day .notices d i deliverer q)
+
   allocable-few : (i : ℕ) → i < m → allocableIn b d i ≤ 200_000_000
   unfolding allocableIn view
   allocable-few i q =
       omega (
         arith,
         allocable-most (getD b 2 0) (termsIn b i) (getD b (noticesAt + 32 * d + i) 0) (getD b (receiptsAt + 32 * d + i) 0),
-        notices-read b d i deliverer q,
-        S .book .day .notices d i deliverer q,
+        lots-notified i q,
       )
 
   used-more : (i : ℕ) → used (done ++ (a ∷ [])) d i ≡ used done d i + getD (a .filled .lots) i 0
@@ -127,6 +129,17 @@ module _ (b draw m₀ l₀ : List ℕ) (S : Start b draw m₀ l₀) (k : ℕ) (b
         used-most (view b) draw h d i deliverer q,
         allocable-read b d i deliverer q,
         allocable-few i q,
+      )
+
+  used-enough : (i : ℕ) → i < m → used done d i ≤ allocableIn b d i
+  unfolding used view
+  used-enough i q =
+      omega (
+        arith,
+        used-more i,
+        part-total (view b) draw (λ x. pick (eqb (x .match .deliverer) d) (getD (x .filled .lots) i 0) 0) part,
+        used-most (view b) draw h d i deliverer q,
+        allocable-read b d i deliverer q,
       )
 
   lots-few : (i : ℕ) → i < m → allLots (a .filled) i ≤ 100_000_000_000
@@ -163,54 +176,74 @@ module _ (b draw m₀ l₀ : List ℕ) (S : Start b draw m₀ l₀) (k : ℕ) (b
   module _ (c used′ matches lines : List ℕ) (n q : ℕ) (R : Running b m₀ l₀ done c used′ matches lines n q) where
     -- ---- what is asked
 
-    pub load-asks : (notified order : List ℕ) → length notified ≡ 32 → length order ≡ 32 → Loadable c before d notified order
-    load-asks notified order e f = record {
+    issues-same : issuesIn c ≡ m
+    issues-same = issues-kept b (S .book) done c (R .booked)
+
+    notice-same : (i : ℕ) → i < m → getD c (noticesAt + 32 * d + i) 0 ≡ getD b (noticesAt + 32 * d + i) 0
+    notice-same i x = notices-kept b (S .book) done c (R .booked) (noticesAt + 32 * d + i) (omega arith) (omega (arith, deliverer, S .book .sizes .few, S .book .sizes .most))
+
+    terms-rated : Rates (bookTerms c) rates
+    terms-rated = subst (λ (ts : List Terms). Rates ts rates) (sym (terms-kept b (S .book) done c (R .booked))) (T .rated)
+
+    pub usable-asks : (usable : List ℕ) → length usable ≡ 32 → UsableAsked c cells j rates inside allocable used′ usable
+    usable-asks usable e = record {
       sized = sized-kept b (S .book) done c (R .booked);
+      place = omega (arith, P .few);
       deliverer = omega (arith, deliverer, S .book .sizes .few);
-      earlier = P .earlier;
+      rated = terms-rated;
+      stock = T .stock .places;
+      gone = R .places;
+      allocable-most = λ i x. omega (arith, T .stock .each d i deliverer (omega (arith, issues-same)), allocable-few i (omega (arith, issues-same)));
+      enough = λ i x v.
+          omega (
+            arith,
+            T .stock .each d i deliverer (omega (arith, issues-same)),
+            R .gone d i deliverer (omega (arith, issues-same)),
+            used-enough i (omega (arith, issues-same)),
+          );
       wide = e;
-      long = f;
     }
 
-    -- rows loaded from the book as it is are those of the book as it was
-    pub load-kept : (preferential : Bool) (notified order : List ℕ) → Loaded c before d preferential notified order → Loaded b before d preferential notified order
-    load-kept preferential notified order L =
-        let e : issuesIn c ≡ m = issues-kept b (S .book) done c (R .booked) in
-        let same : (i : ℕ) → i < m → getD c (noticesAt + 32 * d + i) 0 ≡ getD b (noticesAt + 32 * d + i) 0 =
-        λ i x. notices-kept b (S .book) done c (R .booked) (noticesAt + 32 * d + i) (omega arith) (omega (arith, deliverer, S .book .sizes .few, S .book .sizes .most)) in
-        record {
-          wide = L .wide;
-          lots = λ i x. L .lots i (omega arith) ∙ same i x;
-          ordered = record {
-            places = L .ordered .places;
-            cells = ap (λ (x : ℕ). take x order) (sym e) ∙ L .ordered .cells
-                ∙ ap (λ (x : ℕ). ranked (λ i. orderKey preferential (getD c (noticesAt + 32 * d + i) 0) (getD before (32 * d + i) 0)) x) e
-                ∙ ranked-alike _ _ m (λ i x. ap (λ (v : ℕ). orderKey preferential v (getD before (32 * d + i) 0)) (same i x));
-          };
-        }
+    pub order-asks : (sorted : Bool) (orders order : List ℕ) → Orders m orders → length order ≡ 32 → Arranged m order → (sorted ≡ true → 0 < j → OrderedAt c before cells (j - 1) order)
+        → OrderAsked c before cells j sorted orders order
+    order-asks sorted orders order O e A last = record {
+      place = omega (arith, P .few);
+      amount = amount-most;
+      loadable = record {
+        sized = sized-kept b (S .book) done c (R .booked);
+        deliverer = omega (arith, deliverer, S .book .sizes .few);
+        notified-most = λ i x. omega (arith, notice-same i (omega (arith, issues-same)), lots-notified i (omega (arith, issues-same)));
+        earlier = P .earlier;
+        kept = subst (λ (q : ℕ). Orders q orders) (sym issues-same) O;
+        long = e;
+      };
+      arranged = subst (λ (q : ℕ). Arranged q order) (sym issues-same) A;
+      last = last;
+    }
 
-    module _ (notified order : List ℕ) (L : Loaded b before d (eqb (getD cells (4 * j + 3) 0) 1) notified order) where
-      pub fill-asks : (lots : List ℕ) → length lots ≡ 32 → Fillable c cells j rates inside allocable used′ notified order lots
-      fill-asks lots e =
-          let same : issuesIn c ≡ m = issues-kept b (S .book) done c (R .booked) in
-          record {
-            sized = sized-kept b (S .book) done c (R .booked);
-            place = omega (arith, P .few);
-            deliverer = omega (arith, deliverer, S .book .sizes .few);
-            amount = amount-most;
-            rated = subst (λ (ts : List Terms). Rates ts rates) (sym (terms-kept b (S .book) done c (R .booked))) (T .rated);
-            marks = P .wide;
-            stock = T .stock .places;
-            gone = R .places;
-            allocable-most = λ i x. omega (arith, T .stock .each d i deliverer (omega arith), allocable-few i (omega arith));
-            long = L .ordered .places;
-            inside-order = λ i x. omega (arith, ordered-inside (S .book .sizes .most) (L .ordered) i (omega arith));
-            places = e;
-          }
+    -- an order of the book as it is is one of the book as it was
+    pub order-kept : (preferential : Bool) (order : List ℕ) → Ordered (issuesIn c) (keyIn c before d preferential) order → Ordered m (keyIn b before d preferential) order
+    order-kept preferential order o = ordered-moved c b before d preferential order issues-same (λ i x. notice-same i (omega (arith, issues-same))) o
 
-      module _ (f : Filling) (lots : List ℕ) (A : FilledAs (filledIn c k cells j inside allocable used′ notified order) f lots) where
+    module _ (usable′ : List ℕ) (all : ℕ) (U : UsableLots c cells j inside allocable used′ usable′ all) (orders order : List ℕ) (sorted : Bool) (O : OrderFor c before cells j all orders order sorted) where
+      pub fill-asks : (lots : List ℕ) → length lots ≡ 32 → Fillable c cells j rates usable′ all order lots
+      fill-asks lots e = record {
+        sized = sized-kept b (S .book) done c (R .booked);
+        place = omega (arith, P .few);
+        deliverer = omega (arith, deliverer, S .book .sizes .few);
+        amount = amount-most;
+        rated = terms-rated;
+        wide = U .wide;
+        most = U .most;
+        worth-is = U .worth-is;
+        long = O .long;
+        arranged = O .arranged;
+        places = e;
+      }
+
+      module _ (f : Filling) (lots : List ℕ) (A : FilledAs (filledIn c k cells j usable′ order) f lots) where
         F : FilledAs (a .filled) f lots
-        F = subst (λ (x : Filled). FilledAs x f lots) (next-filled b draw m₀ l₀ S k basket cells count inside before P j l rates allocable T c used′ matches lines n q R notified order L) A
+        F = subst (λ (x : Filled). FilledAs x f lots) (next-filled b draw m₀ l₀ S k basket cells count inside before P j l rates allocable T c used′ matches lines n q R usable′ all U orders order sorted O) A
 
         pub lots-wide : length lots ≡ 32
         lots-wide = ap length (F .lots-are) ∙ length-padded (a .filled .lots) (omega (arith, issues, S .book .sizes .most))

@@ -15,11 +15,11 @@ use Rattle.rule.specs.Calls.{matchSize, lineSize, mostMatches, mostLines}
 use Rattle.rule.specs.Layout.{bookLength, view, signed}
 use Rattle.rule.proofs.BookLaws.{SoundBook}
 use Rattle.rule.proofs.DrawLaws.{EachOnce}
-use Rattle.filling.specs.Rated.{Rates}
+use Rattle.value.specs.Rated.{Rates}
 use Rattle.matching.specs.Plans.{Planned}
-use Rattle.runs.specs.Stock.{insideOf, Allocable}
-use Rattle.runs.specs.Booked.{positionAt, markAt, tallyOf}
-use Rattle.runs.specs.Filled.{participantsIn, issuesIn, bookTerms}
+use Rattle.stock.specs.Stock.{insideOf, Allocable}
+use Rattle.records.specs.Booked.{positionAt, markAt, tallyOf}
+use Rattle.matched.specs.Filled.{participantsIn, issuesIn, bookTerms, Orders}
 
 -- ---- the matches so far
 
@@ -82,6 +82,11 @@ pub record Running (b₀ m₀ l₀ : List ℕ) (done : List Allocation) (b used�
   pub match-count : m ≡ length done
   pub line-count : l ≡ length (lineList done)
 
+-- and the orders of issues that the deliverers had last
+pub record Done (b₀ m₀ l₀ : List ℕ) (done : List Allocation) (b orders used′ matches lines : List ℕ) (m l : ℕ) : Type 0 where
+  pub running : Running b₀ m₀ l₀ done b used′ matches lines m l
+  pub kept : Orders (issuesIn b₀) orders
+
 -- ---- what a basket's step and its loop ask
 
 -- the tables of a run
@@ -89,18 +94,19 @@ pub record Tables (b rates allocable : List ℕ) : Type 0 where
   pub rated : Rates (bookTerms b) rates
   pub stock : Allocable b allocable
 
-pub record Begun (b₀ draw m₀ l₀ : List ℕ) (k : ℕ) (b rates allocable used′ matches lines : List ℕ) (m l : ℕ) : Type 0 where
+pub record Begun (b₀ draw m₀ l₀ : List ℕ) (k : ℕ) (b rates allocable orders used′ matches lines : List ℕ) (m l : ℕ) : Type 0 where
   pub start : Start b₀ draw m₀ l₀
   pub basket : k < 7
   pub tables : Tables b₀ rates allocable
   pub running : Running b₀ m₀ l₀ (doneTo (view b₀) draw k) b used′ matches lines m l
+  pub kept : Orders (issuesIn b₀) orders
 
 -- some book and lists from which the run began
-pub record BasketAsks (k : ℕ) (b draw rates allocable used′ matches lines : List ℕ) (m l : ℕ) : Type 0 where
+pub record BasketAsks (k : ℕ) (b draw rates allocable orders used′ matches lines : List ℕ) (m l : ℕ) : Type 0 where
   pub b₀ : List ℕ
   pub m₀ : List ℕ
   pub l₀ : List ℕ
-  pub begun : Begun b₀ draw m₀ l₀ k b rates allocable used′ matches lines m l
+  pub begun : Begun b₀ draw m₀ l₀ k b rates allocable orders used′ matches lines m l
 
 -- the plan of basket k, its issues, and the lots used before it
 pub record Planning (b₀ draw : List ℕ) (k : ℕ) (cells : List ℕ) (count : ℕ) (inside before : List ℕ) : Type 0 where
@@ -111,10 +117,10 @@ pub record Planning (b₀ draw : List ℕ) (k : ℕ) (cells : List ℕ) (count :
   pub earlier : length before ≡ 384
   pub before-at : (d i : ℕ) → d < participantsIn b₀ → i < issuesIn b₀ → getD before (32 * d + i) 0 ≡ used (doneTo (view b₀) draw k) d i
 
-pub record AllocateAsks (k : ℕ) (b cells : List ℕ) (count : ℕ) (rates inside allocable before used′ matches lines : List ℕ) (m l : ℕ) : Type 0 where
+pub record AllocateAsks (k : ℕ) (b cells : List ℕ) (count : ℕ) (rates inside allocable before orders used′ matches lines : List ℕ) (m l : ℕ) : Type 0 where
   pub b₀ : List ℕ
   pub draw : List ℕ
   pub m₀ : List ℕ
   pub l₀ : List ℕ
-  pub begun : Begun b₀ draw m₀ l₀ k b rates allocable used′ matches lines m l
+  pub begun : Begun b₀ draw m₀ l₀ k b rates allocable orders used′ matches lines m l
   pub planning : Planning b₀ draw k cells count inside before

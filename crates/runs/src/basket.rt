@@ -4,33 +4,8 @@ ghost use Prim.Native.Nat.{_+_, _*_};
 ghost use lib.ListN.{getD};
 ghost use lib.Dec.{eqb};
 ghost use Rattle.rule.specs.Layout.{view};
-ghost use Rattle.runs.specs.Filled.{RowsAsked, Loaded};
-ghost use Rattle.runs.specs.Running.{doneTo, Running, BasketAsks, AllocateAsks};
-use crate::matched;
-use crate::matched::Counts;
-use crate::stock;
-use book::layout;
-
-// The rows of match j's deliverer. Issues are sorted once for each deliverer and sort of match: those of the match before it
-// may do.
-fn rows_for(
-    book: &[u64],
-    before: &[u64],
-    cells: &[u64; 44],
-    j: usize,
-    notified: &mut [u64; 32],
-    order: &mut [u64; 32],
-)
-    requires { ⌜ RowsAsked (now book) (now before) (now cells) j (now notified) (now order) ⌝ }
-    ensures { λ _. ⌜ Loaded (now (book .entry)) (now (before .entry)) (getD (now (cells .entry)) (4 * j) 0) (eqb (getD (now (cells .entry)) (4 * j + 3) 0) 1) (now (notified .exit)) (now (order .exit)) ⌝ }
-{
-    if matched::follows(cells, j) {
-        return;
-    }
-    let deliverer = cells[4 * j] as usize;
-    let sort = cells[4 * j + 3];
-    matched::load_rows(book, before, deliverer, sort == 1, notified, order);
-}
+ghost use Rattle.runs.specs.Running.{doneTo, Done, BasketAsks, AllocateAsks};
+use matched::Counts;
 
 // The matches of the basket, filled one after the other.
 fn allocate(
@@ -42,32 +17,52 @@ fn allocate(
     inside: &[u64; 32],
     allocable: &[u64],
     before: &[u64],
+    orders: &mut [u64],
     used: &mut [u64],
     matches: &mut [u64],
     lines: &mut [u64],
     counts: Counts,
 ) -> Counts
-    requires { ⌜ AllocateAsks basket (now book) (now cells) count (now rates) (now inside) (now allocable) (now before) (now used) (now matches) (now lines) (counts .matches) (counts .lines) ⌝ }
-    ensures { λ r. ⌜ ((s : AllocateAsks basket (now (book .entry)) (now (cells .entry)) count (now (rates .entry)) (now (inside .entry)) (now (allocable .entry)) (now (before .entry)) (now (used .entry)) (now (matches .entry)) (now (lines .entry)) (counts .matches) (counts .lines))
-        → Running (s .b₀) (s .m₀) (s .l₀) (doneTo (view (s .b₀)) (s .draw) (basket + 1)) (now (book .exit)) (now (used .exit)) (now (matches .exit)) (now (lines .exit)) (r .matches) (r .lines)) ⌝ }
+    requires { ⌜ AllocateAsks basket (now book) (now cells) count (now rates) (now inside) (now allocable) (now before) (now orders) (now used) (now matches) (now lines) (counts .matches) (counts .lines) ⌝ }
+    ensures { λ r. ⌜ ((s : AllocateAsks basket (now (book .entry)) (now (cells .entry)) count (now (rates .entry)) (now (inside .entry)) (now (allocable .entry)) (now (before .entry)) (now (orders .entry)) (now (used .entry)) (now (matches .entry)) (now (lines .entry)) (counts .matches) (counts .lines))
+        → Done (s .b₀) (s .m₀) (s .l₀) (doneTo (view (s .b₀)) (s .draw) (basket + 1)) (now (book .exit)) (now (orders .exit)) (now (used .exit)) (now (matches .exit)) (now (lines .exit)) (r .matches) (r .lines)) ⌝ }
 {
     let issues = book[layout::ISSUES] as usize;
-    let mut notified = [0u64; 32];
     let mut order = [0u64; 32];
+    ordering::start(&mut order[..]);
+    let mut sorted = false;
+    let mut usable = [0u64; 32];
     let mut done = counts;
     for j in 0..count {
         let mut lots = [0u64; 32];
-        rows_for(&*book, before, cells, j, &mut notified, &mut order);
-        let f = matched::fill_next(
+        let all = matched::usable_lots(
             &*book,
-            basket,
             cells,
             j,
             rates,
             inside,
             allocable,
             &*used,
-            &notified,
+            &mut usable,
+        );
+        sorted = matched::order_for(
+            &*book,
+            before,
+            cells,
+            j,
+            all,
+            sorted,
+            &mut *orders,
+            &mut order,
+        );
+        let f = matched::fill_next(
+            &*book,
+            basket,
+            cells,
+            j,
+            rates,
+            &usable,
+            all,
             &order,
             &mut lots,
         );
@@ -94,14 +89,15 @@ pub fn run_basket(
     draw: &[u64],
     rates: &[u64; 32],
     allocable: &[u64],
+    orders: &mut [u64],
     used: &mut [u64],
     matches: &mut [u64],
     lines: &mut [u64],
     counts: Counts,
 ) -> Counts
-    requires { ⌜ BasketAsks basket (now book) (now draw) (now rates) (now allocable) (now used) (now matches) (now lines) (counts .matches) (counts .lines) ⌝ }
-    ensures { λ r. ⌜ ((s : BasketAsks basket (now (book .entry)) (now (draw .entry)) (now (rates .entry)) (now (allocable .entry)) (now (used .entry)) (now (matches .entry)) (now (lines .entry)) (counts .matches) (counts .lines))
-        → Running (s .b₀) (s .m₀) (s .l₀) (doneTo (view (s .b₀)) (now (draw .entry)) (basket + 1)) (now (book .exit)) (now (used .exit)) (now (matches .exit)) (now (lines .exit)) (r .matches) (r .lines)) ⌝ }
+    requires { ⌜ BasketAsks basket (now book) (now draw) (now rates) (now allocable) (now orders) (now used) (now matches) (now lines) (counts .matches) (counts .lines) ⌝ }
+    ensures { λ r. ⌜ ((s : BasketAsks basket (now (book .entry)) (now (draw .entry)) (now (rates .entry)) (now (allocable .entry)) (now (orders .entry)) (now (used .entry)) (now (matches .entry)) (now (lines .entry)) (counts .matches) (counts .lines))
+        → Done (s .b₀) (s .m₀) (s .l₀) (doneTo (view (s .b₀)) (now (draw .entry)) (basket + 1)) (now (book .exit)) (now (orders .exit)) (now (used .exit)) (now (matches .exit)) (now (lines .exit)) (r .matches) (r .lines)) ⌝ }
 {
     let issues = book[layout::ISSUES] as usize;
     let mut cells = [0u64; 44];
@@ -119,6 +115,7 @@ pub fn run_basket(
         &inside,
         allocable,
         &before[..],
+        orders,
         used,
         matches,
         lines,

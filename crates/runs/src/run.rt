@@ -1,11 +1,9 @@
 // A run on a sound book: the seven baskets, and what they leave.
-ghost use Rattle.runs.specs.Filled.{Sized};
+ghost use Rattle.matched.specs.Filled.{Sized};
 ghost use Rattle.runs.specs.Running.{Start};
 ghost use Rattle.runs.specs.Ran.{BasketsAsk, BasketsDone, Cleared, Ran};
 use crate::basket;
-use crate::matched::Counts;
-use crate::stock;
-use book::layout;
+use matched::Counts;
 
 // "Basket by basket, A first".
 fn run_baskets(
@@ -20,6 +18,8 @@ fn run_baskets(
     ensures { λ r. ⌜ BasketsDone (now (book .entry)) (now (draw .entry)) (now (matches .entry)) (now (lines .entry)) (now (book .exit)) (now (matches .exit)) (now (lines .exit)) (r .matches) (r .lines) ⌝ }
 {
     let mut used = [0u64; 384];
+    let mut orders = [0u64; 384];
+    ordering::start(&mut orders[..]);
     let mut done = Counts {
         matches: 0,
         lines: 0,
@@ -31,6 +31,7 @@ fn run_baskets(
             draw,
             rates,
             allocable,
+            &mut orders[..],
             &mut used[..],
             &mut *matches,
             &mut *lines,
@@ -61,7 +62,7 @@ pub fn run(book: &mut [u64], draw: &[u64], matches: &mut [u64], lines: &mut [u64
 {
     let issues = book[layout::ISSUES] as usize;
     let mut rates = [0u64; 32];
-    filling::rates_of(&book[layout::TERMS..layout::RECEIPTS], issues, &mut rates);
+    value::rates_of(&book[layout::TERMS..layout::RECEIPTS], issues, &mut rates);
     let mut allocable = [0u64; 384];
     stock::allocable_rows(&*book, &mut allocable[..]);
     let counts = run_baskets(&mut *book, draw, &rates, &allocable[..], matches, lines);

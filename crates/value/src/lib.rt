@@ -1,8 +1,12 @@
 // The valuation: the one place where lots become yen and yen become lots.
 ghost use mathlib.Core.Path.{_≡_};
+ghost use mathlib.Core.List.{List};
 ghost use Prim.Native.Nat.{ℕ, _+_, _≤_, _<_};
+ghost use lib.ListN.{length, take};
 ghost use Rattle.rule.specs.Value.{Terms, value as valueOf, fewest as fewestOf, most as mostOf};
+ghost use Rattle.rule.specs.Filling.{worth as worthOf};
 ghost use Rattle.value.specs.Rate.{rate as rateOf, Quoted, Valuable, Payable};
+ghost use Rattle.value.specs.Rated.{Rates, Termed, termsIn, Stocked};
 use rule::Lots;
 use rule::Yen;
 
@@ -54,4 +58,29 @@ pub fn most(rate: Rate, room: Yen) -> Lots
 {
     let parts = 730 * room.0 + 729;
     Lots(parts / rate.0)
+}
+
+// The rate of each issue, from six terms to an issue.
+pub fn rates_of(terms: &[u64], issues: usize, rates: &mut [u64; 32])
+    requires { ⌜ Termed issues (now terms) (now rates) ⌝ }
+    ensures { λ r. ⌜ Rates (termsIn issues (now (terms .entry))) (now (rates .exit)) ⌝ }
+{
+    for i in 0..issues {
+        let at = 6 * i;
+        let rate = rate_of(terms[at + 1], terms[at + 2], terms[at + 3]);
+        rates[i] = rate.0;
+    }
+}
+
+// What all usable lots are worth.
+pub fn worth(usable: &[u64; 32], rates: &[u64; 32], issues: usize) -> Yen
+    requires { ⌜ Stocked issues (now usable) (now rates) ⌝ }
+    ensures { λ r. ⌜ ((ts : List Terms) → length ts ≡ issues → Rates ts (now (rates .entry)) → r .0 ≡ worthOf ts (take issues (now (usable .entry)))) ⌝ }
+{
+    let mut sum: u64 = 0;
+    for i in 0..issues {
+        let part = value(Rate(rates[i]), Lots(usable[i]));
+        sum = sum + part.0;
+    }
+    Yen(sum)
 }

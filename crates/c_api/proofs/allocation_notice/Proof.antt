@@ -5,7 +5,7 @@ use Rattle.c_api.proofs.allocation_notice.Statement.{statement}
 use Rattle.c_api.proofs.allocation_notice.Tie as tie
 use Rattle.c_api.proofs.allocation_notice.Reads as reads
 use Rattle.c_api.proofs.allocation_notice.Lts as lts
-use Rattle.allocation.proofs.notice.notice.Reads as notice-reads
+use Rattle.notice.proofs.notice.Reads as notice-reads
 use Rattle.c_api.proofs.returned.Reads as returned-reads
 
 notice-requires : tie.Need-notice-requires

@@ -5,7 +5,7 @@ use Rattle.c_api.proofs.allocation_open.Statement.{statement}
 use Rattle.c_api.proofs.allocation_open.Tie as tie
 use Rattle.c_api.proofs.allocation_open.Reads as reads
 use Rattle.c_api.proofs.allocation_open.Lts as lts
-use Rattle.allocation.proofs.opening.open.Reads as open-reads
+use Rattle.opening.proofs.open.Reads as open-reads
 use Rattle.c_api.proofs.returned.Reads as returned-reads
 
 open-requires : tie.Need-open-requires

@@ -6,7 +6,7 @@ use Rattle.c_api.proofs.allocation_run.Statement.{statement}
 use Rattle.c_api.proofs.allocation_run.Tie as tie
 use Rattle.c_api.proofs.allocation_run.Reads as reads
 use Rattle.c_api.proofs.allocation_run.Lts as lts
-use Rattle.allocation.proofs.run.run.Reads as run-reads
+use Rattle.run.proofs.run.Reads as run-reads
 use Rattle.c_api.proofs.returned_run.Reads as returned-run-reads
 
 run-requires : tie.Need-run-requires

@@ -5,7 +5,7 @@ use Rattle.c_api.proofs.allocation_trade.Statement.{statement}
 use Rattle.c_api.proofs.allocation_trade.Tie as tie
 use Rattle.c_api.proofs.allocation_trade.Reads as reads
 use Rattle.c_api.proofs.allocation_trade.Lts as lts
-use Rattle.allocation.proofs.trade.trade.Reads as trade-reads
+use Rattle.trade.proofs.trade.Reads as trade-reads
 use Rattle.c_api.proofs.returned.Reads as returned-reads
 
 trade-requires : tie.Need-trade-requires

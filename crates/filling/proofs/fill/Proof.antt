@@ -8,7 +8,7 @@ use Rattle.filling.proofs.fill.Statement.{statement}
 use Rattle.filling.proofs.fill.Tie as tie
 
 returns : tie.Need-returns
-returns c = fill-nothing (c .before .before .pre) (c .if1 .taken) _
+returns c = λ ts sized rated. fill-nothing (c .before .before .pre) (c .if1 .taken) _ ts
 
 fill-preferential-requires : tie.Need-fill-preferential-requires
 fill-preferential-requires c κs = record { some = omega (arith, c .before .before .if1 .left); fillable = c .before .before .before .before .pre }

@@ -1,117 +1,116 @@
--- `filling_cases::case` meets its contract. Assumes nothing.
-use mathlib.Core.Path.{_≡_, refl}
+-- `filling_cases::case` is safe and ends. Assumes nothing.
+use mathlib.Core.Path.{_≡_, refl, sym}
+use Prim.Native.Nat.{ℕ}
 use borrow.Author.Needs.{needs}
 use borrow.Author.Tests.{not-false}
-use native.Mathlib.Omega.{arith}
-use lib.ListN.{length}
-use Rattle.filling_cases.proofs.CaseLaws.{termed, matchable}
+use lib.ListN.{length, getD}
+use Rattle.ordering.specs.Ordered.{orderKey}
+use Rattle.filling_cases.proofs.CaseLaws.{termed, orderable, stocked, matchable}
 use Rattle.filling_cases.proofs.case.Statement.{statement}
 use Rattle.filling_cases.proofs.case.Tie as tie
 
--- from further down: where the sizes are tested
-abbrev tested : tie.After-lots → tie.Else3
-tested c = c .before .before .before .before .before .before .before .before .before .before .before .before .before .before .before .before
+-- from further down: where the calls are made, and where all tests are passed
+abbrev valued : tie.After-lots → tie.After-worth
+valued c = c .before .before .before .before .before
 
-wide : (c : tie.Start) → length (c .args .t8) ≡ 32
+abbrev ordered : tie.After-lots → tie.After-issue-order
+ordered c = valued c .before .before .before
+
+abbrev rated : tie.After-lots → tie.After-rates-of
+rated c = ordered c .before .before .before .before .before .before .before
+
+abbrev tested : tie.After-lots → tie.Else4
+tested c = rated c .before .before
+
+abbrev start : tie.Else4 → tie.Start
+start c = c .before .before .before .before .before .before .before .before .before .before .before
+
+noticed : (c : tie.Start) → length (c .args .t8) ≡ 32
+noticed c = search needs
+
+wide : (c : tie.Start) → length (c .args .t9) ≡ 32
 wide c = search needs
 
 returns : tie.Need-returns
-returns c = search needs
-
-returns-2 : tie.Need-returns-2
-returns-2 c = search needs
-
-returns-3 : tie.Need-returns-3
-returns-3 c = search needs
+returns c = tt
 
 all-fit-requires : tie.Need-all-fit-requires
-all-fit-requires c κs = search needs
+all-fit-requires c κs = c .before .before .before .pre
+
+returns-2 : tie.Need-returns-2
+returns-2 c = tt
+
+all-within-requires : tie.Need-all-within-requires
+all-within-requires c κs = tt
+
+returns-3 : tie.Need-returns-3
+returns-3 c = tt
+
+all-within-requires-2 : tie.Need-all-within-requires-2
+all-within-requires-2 c κs = tt
 
 returns-4 : tie.Need-returns-4
-returns-4 c = search needs
-
-all-usable-requires : tie.Need-all-usable-requires
-all-usable-requires c κs = search needs
-
-returns-5 : tie.Need-returns-5
-returns-5 c = search needs
+returns-4 c = tt
 
 rates-of-requires : tie.Need-rates-of-requires
 rates-of-requires c κs =
-    let f = c .before .before .before .before in
-    termed (f .before .before .before .if2 .left) (f .before .all-fit .ensures (not-false _ (f .if4 .left))) refl
+    let f = c .before .before .before .before .before .before .before in
+    termed (start (c .before) .pre) (f .before .all-fit .ensures (not-false _ (f .if2 .left))) refl
+
+slice-aggregate-start : tie.Need-slice-aggregate-start
+slice-aggregate-start c = search needs
+
+start-requires : tie.Need-start-requires
+start-requires c κs = search needs
 
 issue-order-requires : tie.Need-issue-order-requires
-issue-order-requires c κs = search needs
+issue-order-requires c κs =
+    let t = c .before .before .before .before .before .before .before .before in
+    let f = t .before .before .before in
+    orderable (start t .pre) refl (f .before .all-within .ensures (not-false _ (f .if3 .left))) (c .before .before .before .before .start .ensures)
+
+worth-requires : tie.Need-worth-requires
+worth-requires c κs =
+    let r = c .before .before .before .before .before .before .before .before .before in
+    let t = r .before .before in
+    let s = start t in
+    stocked (s .pre) (wide s) (r .rates-of .ensures) (t .before .all-within2 .ensures (not-false _ (t .if4 .left)))
+
+slice-aggregate-fill-match : tie.Need-slice-aggregate-fill-match
+slice-aggregate-fill-match c = sym (noticed (start (c .before .before .before .before .before .before .before .before .before .before .before .before .before)))
 
 fill-match-requires : tie.Need-fill-match-requires
 fill-match-requires c κs =
-    let o = c .before .before .before .before .before in
-    let r = o .before .before .before .before in
-    let u = r .before .before in
     let t = tested c in
-    matchable (t .before .if2 .left) (t .before .before .if1 .left) (wide (t .before .before .before .before .before)) refl
-    (r .rates-of .ensures) (u .before .all-usable .ensures (not-false _ (u .if5 .left))) (o .issue-order .ensures) (t .if3 .left)
+    let s = start t in
+    let key : ℕ → ℕ = λ i. orderKey (s .args .preferential) (getD (s .args .t8) i 0) (getD (s .args .t10) i 0) in
+    matchable (s .pre) {key = key} (noticed s) (wide s) refl (rated c .rates-of .ensures) (t .before .all-within2 .ensures (not-false _ (t .if4 .left))) (ordered c .issue-order .ensures)
+    (valued c .worth .ensures)
+    (t .before .before .before .before .before .before .before .before .if1 .left)
 
-write-all-requires : tie.Need-write-all-requires
-write-all-requires c κs = search needs
+show-requires : tie.Need-show-requires
+show-requires c κs = start (tested (c .before)) .pre .most
 
-slice-aggregate-write-all : tie.Need-slice-aggregate-write-all
-slice-aggregate-write-all c = search needs
-
-write-all-requires-2 : tie.Need-write-all-requires-2
-write-all-requires-2 c κs = search needs
-
-say-requires : tie.Need-say-requires
-say-requires c κs = search needs
-
-say-requires-2 : tie.Need-say-requires-2
-say-requires-2 c κs = search needs
-
-say-requires-3 : tie.Need-say-requires-3
-say-requires-3 c κs = search needs
-
-slice-aggregate-write-all-2 : tie.Need-slice-aggregate-write-all-2
-slice-aggregate-write-all-2 c = search needs
-
-write-all-requires-3 : tie.Need-write-all-requires-3
-write-all-requires-3 c κs = search needs
-
-say-lots-requires : tie.Need-say-lots-requires
-say-lots-requires c κs = let m = c .before .before .before .before .before .before .before .before .before .before in tested (m .before) .before .if2 .left
-
-slice-aggregate-write-all-3 : tie.Need-slice-aggregate-write-all-3
-slice-aggregate-write-all-3 c = search needs
-
-write-all-requires-4 : tie.Need-write-all-requires-4
-write-all-requires-4 c κs = search needs
-
-returns-6 : tie.Need-returns-6
-returns-6 c = search needs
+returns-5 : tie.Need-returns-5
+returns-5 c = tt
 
 pub case-spec : {M : Type 1} → statement M
 case-spec =
     tie.close
     (tie.spec
     returns
-    returns-2
-    returns-3
     all-fit-requires
+    returns-2
+    all-within-requires
+    returns-3
+    all-within-requires-2
     returns-4
-    all-usable-requires
-    returns-5
     rates-of-requires
+    slice-aggregate-start
+    start-requires
     issue-order-requires
+    worth-requires
+    slice-aggregate-fill-match
     fill-match-requires
-    write-all-requires
-    slice-aggregate-write-all
-    write-all-requires-2
-    say-requires
-    say-requires-2
-    say-requires-3
-    slice-aggregate-write-all-2
-    write-all-requires-3
-    say-lots-requires
-    slice-aggregate-write-all-3
-    write-all-requires-4
-    returns-6)
+    show-requires
+    returns-5)

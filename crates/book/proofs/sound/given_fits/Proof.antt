@@ -3,7 +3,7 @@ use borrow.Author.Needs.{needs}
 use Rattle.lists.proofs.TestLaws.{flag-no, flag-yes}
 use Rattle.rule.specs.Sound.{receiptsFit}
 use Rattle.book.specs.Sized.{givenFits}
-use Rattle.book.proofs.ScanLaws.{holds-stop, holds-go, holds-end}
+use Rattle.ranges.proofs.ScanLaws.{holds-stop, holds-go, holds-end}
 -- `book::sound::given_fits` meets its contract. Four tests in a row. Assumes nothing.
 use Rattle.book.proofs.sound.given_fits.Statement.{statement}
 use Rattle.book.proofs.sound.given_fits.Tie as tie

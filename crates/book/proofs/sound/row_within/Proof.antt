@@ -7,7 +7,7 @@ use borrow.Author.Needs.{needs}
 use lib.Dec.{leb}
 use lib.ListN.{getD}
 use Rattle.book.specs.Sized.{isWithin}
-use Rattle.book.proofs.ScanLaws.{Gathered, gathered-none, gathered-more, gathered-all, bits-below}
+use Rattle.ranges.proofs.ScanLaws.{Gathered, gathered-none, gathered-more, gathered-all, bits-below}
 use Rattle.book.proofs.sound.row_within.Statement.{statement}
 use Rattle.book.proofs.sound.row_within.Tie as tie
 

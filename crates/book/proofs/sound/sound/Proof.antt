@@ -4,7 +4,7 @@ use borrow.Author.Needs.{needs}
 use borrow.Author.Tests.{eq-eqb, ne-eqb}
 use Rattle.lists.proofs.TestLaws.{row-stop, row-go, flag-no, flag-yes}
 use Rattle.rule.specs.Layout.{bookFits}
-use Rattle.book.proofs.ScanLaws.{holds-stop, holds-go, holds-end}
+use Rattle.ranges.proofs.ScanLaws.{holds-stop, holds-go, holds-end}
 use Rattle.book.proofs.WholeLaws.{sound-is, sized}
 -- `book::sound::sound` meets its contract. Four tests in a row. Assumes nothing.
 use Rattle.book.proofs.sound.sound.Statement.{statement}

@@ -7,7 +7,7 @@ use lib.ListN.{getD}
 use borrow.Author.Tests.{le-leb, lt-leb}
 use Rattle.lists.proofs.TestLaws.{flag-no, flag-yes}
 use Rattle.book.specs.Sized.{stateWithin}
-use Rattle.book.proofs.ScanLaws.{holds-stop, holds-go, holds-end}
+use Rattle.ranges.proofs.ScanLaws.{holds-stop, holds-go, holds-end}
 use Rattle.book.proofs.WholeLaws.{state-is, while-small}
 -- `book::sound::state_fits` meets its contract. Six tests in a row. Assumes nothing.
 use Rattle.book.proofs.sound.state_fits.Statement.{statement}

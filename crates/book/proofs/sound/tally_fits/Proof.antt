@@ -5,9 +5,9 @@ use native.Mathlib.Omega.{arith}
 use borrow.Author.Needs.{needs}
 use Rattle.lists.proofs.TestLaws.{flag-no, flag-yes}
 use Rattle.rule.specs.Layout.{tallyAt}
-use Rattle.book.specs.Ranges.{rowPasses}
+use Rattle.ranges.specs.Ranges.{rowPasses}
 use Rattle.book.specs.Sized.{isWithin}
-use Rattle.book.proofs.ScanLaws.{Passed, passed-none, passed-more, passed-stop, passed-all}
+use Rattle.ranges.proofs.ScanLaws.{Passed, passed-none, passed-more, passed-stop, passed-all}
 use Rattle.book.proofs.sound.tally_fits.Statement.{statement}
 use Rattle.book.proofs.sound.tally_fits.Tie as tie
 

@@ -4,7 +4,7 @@ use Prim.Native.Nat.{_-_}
 use native.Mathlib.Omega.{arith}
 use borrow.Author.Needs.{needs}
 use Rattle.book.specs.Sized.{eligibleAt}
-use Rattle.book.proofs.ScanLaws.{Passed, passed-none, passed-more, passed-all}
+use Rattle.ranges.proofs.ScanLaws.{Passed, passed-none, passed-more, passed-all}
 use Rattle.book.proofs.SoundLaws.{eligible-is, tradable-some, tradable-none, is-not}
 use Rattle.lists.proofs.TestLaws.{said-yes, said-no}
 use Rattle.rule.specs.Layout.{termsAt}

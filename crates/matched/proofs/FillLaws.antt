@@ -1,0 +1,156 @@
+-- Laws of what a match may use, and of filling it. Assumes nothing.
+use mathlib.Core.Path.{_≡_, sym, ap, ap₂, _∙_, subst}
+use mathlib.Core.Bool.{Bool}
+use mathlib.Core.List.{List}
+use Prim.Native.Nat.{ℕ, _+_, _-_, _*_, _≤_, _<_}
+use native.Mathlib.Omega.{arith}
+use lib.ListN.{length, getD, take, drop}
+use lib.Seq.{ext-getD, length-take-le, take-all, getD-take}
+use lib.Dec.{eqb}
+use borrow.Rule.Slice.PartMut.{putMid}
+use Rattle.lists.specs.Tables.{table}
+use Rattle.lists.specs.Parts.{block}
+use Rattle.lists.proofs.TestLaws.{pick-elim}
+use Rattle.lists.proofs.TableLaws.{length-table, getD-table}
+use Rattle.lists.proofs.PartLaws.{block-get, length-block, part-is, part-length}
+use Rattle.rule.specs.Value.{Terms}
+use Rattle.rule.specs.Filling.{worth, Filled, filled, forcedIssue}
+use Rattle.rule.specs.Layout.{termsAt, noticesAt}
+use Rattle.value.specs.Rated.{Rates, Stocked}
+use Rattle.value.proofs.TermLaws.{terms-length}
+use Rattle.filling.specs.Match.{Matchable, FilledAs}
+use Rattle.filling.specs.declared.Filling.{Filling}
+use Rattle.filling.proofs.OnceLaws.{order-once}
+use Rattle.ordering.proofs.OrderLaws.{ordered-inside}
+use Rattle.rows.specs.Rows.{Becomes, Addable}
+use Rattle.rows.proofs.RowLaws.{lent-size, lent-in, lent-out}
+use Rattle.records.proofs.BookingLaws.{where-is}
+use Rattle.stock.specs.Stock.{usableOf, Usable as RowUsable, Usables}
+use Rattle.matched.specs.Filled.{issuesIn, bookTerms, usableIn, UsableAsked, UsableLots, Fillable, filledIn, Usable, Used}
+
+-- ---- what may be used
+
+usable-most : (inside allocable used c : ℕ) → allocable ≤ c → usableOf inside allocable used ≤ c
+unfolding usableOf
+usable-most inside allocable used c h = pick-elim (λ (x : ℕ). x ≤ c) (eqb inside 1) (allocable - used) 0 (omega arith) (omega arith)
+
+module _ {b cells : List ℕ} {j : ℕ} {rates inside allocable used usable₀ : List ℕ} (h : UsableAsked b cells j rates inside allocable used usable₀) where
+  abbrev m : ℕ
+  m = issuesIn b
+
+  abbrev at : ℕ
+  at = 32 * getD cells (4 * j) 0
+
+  pub stock-fits : at + m ≤ length allocable
+  stock-fits = omega (arith, h .stock, h .deliverer, h .sized .issues)
+
+  pub gone-fits : at + m ≤ length used
+  gone-fits = omega (arith, h .gone, h .deliverer, h .sized .issues)
+
+  lent : (xs : List ℕ) (i : ℕ) → i < m → getD (take (at + m - at) (drop at xs)) i 0 ≡ getD xs (at + i) 0
+  lent xs i l = ap (λ (p : List ℕ). getD p i 0) (part-is xs at m) ∙ block-get xs at m i l
+
+  pub usable-asks : RowUsable inside (take (at + m - at) (drop at allocable)) (take (at + m - at) (drop at used)) m usable₀
+  usable-asks = record {
+    few = h .sized .issues;
+    stock = omega (arith, part-length allocable at m stock-fits);
+    gone = omega (arith, part-length used at m gone-fits);
+    enough = λ i l e. omega (arith, lent used i l, lent allocable i l, h .enough i l e);
+    wide = h .wide;
+  }
+
+  module _ {usable : List ℕ} (w : Usables inside (take (at + m - at) (drop at allocable)) (take (at + m - at) (drop at used)) m usable) where
+    abbrev f : ℕ → ℕ
+    f i = usableOf (getD inside i 0) (getD allocable (at + i) 0) (getD used (at + i) 0)
+
+    cell-is : (i : ℕ) → i < m → getD usable i 0 ≡ f i
+    cell-is i l = w .each i l ∙ ap₂ (usableOf (getD inside i 0)) (lent allocable i l) (lent used i l)
+
+    row-is : take m usable ≡ usableIn b inside allocable used (getD cells (4 * j) 0)
+    row-is =
+        let long : length (take m usable) ≡ m = length-take-le m usable (omega (arith, w .wide, h .sized .issues)) in
+        ext-getD 0 (take m usable) (table m f) (long ∙ sym (length-table m f))
+        (λ i l. getD-take m usable i 0 (omega (arith, long)) ∙ cell-is i (omega (arith, long)) ∙ sym (getD-table m f i 0 (omega (arith, long))))
+
+    most : (i : ℕ) → i < m → getD usable i 0 ≤ 200_000_000
+    most i l = omega (arith, cell-is i l, usable-most (getD inside i 0) (getD allocable (at + i) 0) (getD used (at + i) 0) 200_000_000 (h .allocable-most i l))
+
+    pub worth-asks : Stocked m usable rates
+    worth-asks = record {
+      terms = bookTerms b;
+      sized = terms-length m (block b termsAt 192);
+      rated = h .rated;
+      issues-most = h .sized .issues;
+      wide = w .wide;
+      usable-most = most;
+    }
+
+    pub usable-are : {all : ℕ} → ((ts : List Terms) → length ts ≡ m → Rates ts rates → all ≡ worth ts (take m usable)) → UsableLots b cells j inside allocable used usable all
+    usable-are g = record { wide = w .wide; row = row-is; most = most; worth-is = g (bookTerms b) (terms-length m (block b termsAt 192)) (h .rated) }
+
+-- ---- filling
+
+module _ {b cells : List ℕ} {j : ℕ} {rates usable : List ℕ} {all : ℕ} {order lots : List ℕ} (h : Fillable b cells j rates usable all order lots) where
+  abbrev n : ℕ
+  n = issuesIn b
+
+  abbrev from : ℕ
+  from = noticesAt + 32 * getD cells (4 * j) 0
+
+  pub notices-fit : from + n ≤ length b
+  notices-fit = omega (arith, h .sized .cells, h .sized .issues, h .deliverer)
+
+  notices-are : take n (take (from + n - from) (drop from b)) ≡ block b from n
+  notices-are =
+      let e : length (take (from + n - from) (drop from b)) ≡ n = part-length b from n notices-fit in
+      ap (λ (l : List ℕ). take n l) (part-is b from n) ∙ take-all n (block b from n) (omega (arith, length-block b from n notices-fit))
+
+  pub fill-asks : Matchable n (block b termsAt 192) (take (from + n - from) (drop from b)) usable order rates all (getD cells (4 * j + 2) 0) lots
+  fill-asks = record {
+    issues-least = h .sized .some;
+    issues-most = h .sized .issues;
+    cells = omega (arith, length-block b termsAt 192 (omega (arith, h .sized .cells)), h .sized .issues);
+    notified-there = omega (arith, part-length b from n notices-fit);
+    wide = h .wide;
+    long = h .long;
+    places = h .places;
+    rated = h .rated;
+    usable-most = h .most;
+    inside = ordered-inside (h .sized .issues) (record { places = h .long; cells = h .arranged .arranged });
+    once = order-once n (h .arranged .key) order (h .arranged .arranged);
+    all-is = h .worth-is;
+    amount-most = h .amount;
+  }
+
+  pub fill-is : (k : ℕ) {f : Filling} {lots′ : List ℕ} (preferential : Bool) → preferential ≡ eqb (getD cells (4 * j + 3) 0) 1
+      → FilledAs (filled (getD b 2 0) preferential (bookTerms b) (take n usable) (take n order) (forcedIssue k (bookTerms b) (take n (take (from + n - from) (drop from b)))) (getD cells (4 * j + 2) 0)) f lots′
+      → FilledAs (filledIn b k cells j usable order) f lots′
+  unfolding filledIn
+  fill-is k {f} {lots′} preferential e p =
+      subst (λ (x : Filled). FilledAs x f lots′)
+      (ap₂ (λ (q : Bool) (l : List ℕ). filled (getD b 2 0) q (bookTerms b) (take n usable) (take n order) (forcedIssue k (bookTerms b) l) (getD cells (4 * j + 2) 0)) e notices-are) p
+
+-- ---- lots used
+
+module _ (used : List ℕ) (d : ℕ) (lots : List ℕ) (h : Usable used d lots) where
+  abbrev count : ℕ
+  count = length lots
+
+  pub used-fits : 32 * d + count ≤ length used
+  used-fits = omega (arith, h .places, h .participant, h .few)
+
+  lent-cell : (i : ℕ) → i < count → getD (take (32 * d + count - 32 * d) (drop (32 * d) used)) i 0 ≡ getD used (32 * d + i) 0
+  lent-cell i l = ap (λ (p : List ℕ). getD p i 0) (part-is used (32 * d) count) ∙ block-get used (32 * d) count i l
+
+  pub use-asks : Addable (take (32 * d + count - 32 * d) (drop (32 * d) used)) lots
+  use-asks =
+      let e : length (take (32 * d + count - 32 * d) (drop (32 * d) used)) ≡ count = part-length used (32 * d) count used-fits in
+      record { room = omega arith; small = λ i l. omega (arith, h .small i (omega arith), lent-cell i (omega arith)) }
+
+  pub lots-used : {part : List ℕ} → Becomes (λ i c. c ≡ getD (take (32 * d + count - 32 * d) (drop (32 * d) used)) i 0 + getD lots i 0) (take (32 * d + count - 32 * d) (drop (32 * d) used)) part
+      → Used used (putMid (32 * d) (32 * d + count - 32 * d) used part) d lots
+  lots-used {part} w = record {
+    size = lent-size _ used (32 * d) count part used-fits w;
+    more = λ i l. lent-in _ used (32 * d) count part used-fits w i l ∙ ap (λ (x : ℕ). x + getD lots i 0) (lent-cell i l);
+    kept = λ j x. lent-out _ used (32 * d) count part used-fits w j (where-is j (32 * d) count x);
+  }

@@ -1,0 +1,4 @@
+-- Laws that the proofs cite.
+pub mod PlanLaws
+pub mod OrderLaws
+pub mod FillLaws

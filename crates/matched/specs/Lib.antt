@@ -1,0 +1,2 @@
+-- What the contracts of one match cite besides the rule.
+pub mod Filled

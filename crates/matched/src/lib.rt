@@ -1,0 +1,263 @@
+// One match of a basket: its deliverer's rows, its filling, and what is written of it. Matches stand in cells, four to each.
+ghost use mathlib.Core.Path.{_≡_};
+ghost use mathlib.Core.Bool.{true};
+ghost use Rattle.filling.specs.Match.{FilledAs};
+ghost use Rattle.matching.specs.Plans.{Planned};
+ghost use Rattle.matched.specs.Filled.{Plannable, PlanRows, planIn, Placed, Same, Loadable, Loaded, OrderAsked, OrderFor, UsableAsked, UsableLots, Fillable, filledIn, Usable, Used, Writable, Wrote};
+use filling::Filling;
+use records::booking;
+use records::listing;
+use rule::Yen;
+
+// How many matches and lines are written.
+pub struct Counts {
+    pub matches: usize,
+    pub lines: usize,
+}
+
+// The matches of the basket, from rows for what each participant owes and has due.
+fn plan_rows(
+    book: &[u64],
+    basket: usize,
+    draw: &[u64],
+    owed: &mut [u64],
+    due: &mut [u64],
+    cells: &mut [u64],
+) -> usize
+    requires { ⌜ PlanRows (now book) (now draw) basket (now owed) (now due) (now cells) ⌝ }
+    ensures { λ n. ⌜ Planned (planIn (now (book .entry)) (now (draw .entry)) basket) (now (cells .exit)) n ⌝ }
+{
+    let positions = layout::POSITIONS + layout::MOST_PARTICIPANTS * basket;
+    let pairs = layout::PAIRS + layout::SQUARE * basket;
+    let pairs_end = pairs + layout::SQUARE;
+    rows::copy_owed(&mut *owed, book, positions);
+    rows::copy_due(&mut *due, book, positions);
+    matching::plan(
+        book[layout::RUNS],
+        &book[pairs..pairs_end],
+        draw,
+        owed,
+        due,
+        cells,
+    )
+}
+
+pub fn plan_basket(book: &[u64], basket: usize, draw: &[u64], cells: &mut [u64]) -> usize
+    requires { ⌜ Plannable (now book) (now draw) basket (now cells) ⌝ }
+    ensures { λ n. ⌜ Planned (planIn (now (book .entry)) (now (draw .entry)) basket) (now (cells .exit)) n ⌝ }
+{
+    let participants = book[layout::PARTICIPANTS] as usize;
+    let mut owed = [0u64; 12];
+    let mut due = [0u64; 12];
+    plan_rows(
+        book,
+        basket,
+        draw,
+        &mut owed[..participants],
+        &mut due[..participants],
+        cells,
+    )
+}
+
+// Has the match before match j the same deliverer, and is it of the same sort? Then their rows are the same.
+fn follows(cells: &[u64; 44], j: usize) -> bool
+    requires { ⌜ Placed j ⌝ }
+    ensures { λ r. ⌜ (r ≡ true → Same (now (cells .entry)) j) ⌝ }
+{
+    if j == 0 {
+        return false;
+    }
+    let here = 4 * j;
+    let last = 4 * (j - 1);
+    if cells[last] != cells[here] {
+        return false;
+    }
+    cells[last + 3] == cells[here + 3]
+}
+
+// The order of the deliverer's issues, sorted from the one that they had last: little of it changes from basket to basket.
+fn load_order(
+    book: &[u64],
+    before: &[u64],
+    deliverer: usize,
+    preferential: bool,
+    orders: &mut [u64],
+    order: &mut [u64; 32],
+)
+    requires { ⌜ Loadable (now book) (now before) deliverer (now orders) (now order) ⌝ }
+    ensures { λ _. ⌜ Loaded (now (book .entry)) (now (before .entry)) deliverer preferential (now (orders .exit)) (now (order .exit)) ⌝ }
+{
+    let issues = book[layout::ISSUES] as usize;
+    let from = layout::MOST_ISSUES * deliverer;
+    let mut notified = [0u64; 32];
+    let mut earlier = [0u64; 32];
+    rows::load(&mut notified, issues, book, layout::NOTICES + from);
+    rows::load(&mut earlier, issues, before, from);
+    rows::load(&mut *order, layout::MOST_ISSUES, &*orders, from);
+    ordering::issue_order(preferential, &notified, &earlier, issues, &mut *order);
+    let end = from + layout::MOST_ISSUES;
+    rows::store(&mut orders[from..end], &*order);
+}
+
+// Is the order of the match before, if it is sorted, that of match j?
+fn is_sorted(cells: &[u64; 44], j: usize, sorted: bool) -> bool
+    requires { ⌜ Placed j ⌝ }
+    ensures { λ r. ⌜ (r ≡ true → (sorted ≡ true) × Same (now (cells .entry)) j) ⌝ }
+{
+    if !sorted {
+        return false;
+    }
+    follows(cells, j)
+}
+
+// The order of match j's issues, where filling goes through them: it is sorted at most once for each deliverer, basket and sort of
+// match. Says whether the order is that of match j.
+pub fn order_for(
+    book: &[u64],
+    before: &[u64],
+    cells: &[u64; 44],
+    j: usize,
+    all: Yen,
+    sorted: bool,
+    orders: &mut [u64],
+    order: &mut [u64; 32],
+) -> bool
+    requires { ⌜ OrderAsked (now book) (now before) (now cells) j sorted (now orders) (now order) ⌝ }
+    ensures { λ r. ⌜ OrderFor (now (book .entry)) (now (before .entry)) (now (cells .entry)) j (all .0) (now (orders .exit)) (now (order .exit)) r ⌝ }
+{
+    if is_sorted(cells, j, sorted) {
+        return true;
+    }
+    let deliverer = cells[4 * j] as usize;
+    let amount = cells[4 * j + 2];
+    let sort = cells[4 * j + 3];
+    if !filling::goes_through(book[layout::RUNS], all, Yen(amount)) {
+        return false;
+    }
+    load_order(book, before, deliverer, sort == 1, orders, order);
+    true
+}
+
+// What match j may use, into a lent row, and what all of it is worth.
+pub fn usable_lots(
+    book: &[u64],
+    cells: &[u64; 44],
+    j: usize,
+    rates: &[u64; 32],
+    inside: &[u64; 32],
+    allocable: &[u64],
+    used: &[u64],
+    usable: &mut [u64; 32],
+) -> Yen
+    requires { ⌜ UsableAsked (now book) (now cells) j (now rates) (now inside) (now allocable) (now used) (now usable) ⌝ }
+    ensures { λ r. ⌜ UsableLots (now (book .entry)) (now (cells .entry)) j (now (inside .entry)) (now (allocable .entry)) (now (used .entry)) (now (usable .exit)) (r .0) ⌝ }
+{
+    let issues = book[layout::ISSUES] as usize;
+    let deliverer = cells[4 * j] as usize;
+    let at = layout::MOST_ISSUES * deliverer;
+    let end = at + issues;
+    stock::usable_row(
+        inside,
+        &allocable[at..end],
+        &used[at..end],
+        issues,
+        &mut *usable,
+    );
+    value::worth(&*usable, rates, issues)
+}
+
+// Match j, filled with what it may use.
+pub fn fill_next(
+    book: &[u64],
+    basket: usize,
+    cells: &[u64; 44],
+    j: usize,
+    rates: &[u64; 32],
+    usable: &[u64; 32],
+    all: Yen,
+    order: &[u64; 32],
+    lots: &mut [u64; 32],
+) -> Filling
+    requires { ⌜ Fillable (now book) (now cells) j (now rates) (now usable) (all .0) (now order) (now lots) ⌝ }
+    ensures { λ f. ⌜ FilledAs (filledIn (now (book .entry)) basket (now (cells .entry)) j (now (usable .entry)) (now (order .entry))) f (now (lots .exit)) ⌝ }
+{
+    let issues = book[layout::ISSUES] as usize;
+    let deliverer = cells[4 * j] as usize;
+    let amount = cells[4 * j + 2];
+    let sort = cells[4 * j + 3];
+    let notices = layout::NOTICES + layout::MOST_ISSUES * deliverer;
+    let end = notices + issues;
+    filling::fill_match(
+        book[layout::RUNS],
+        sort == 1,
+        basket as u64,
+        issues,
+        &book[layout::TERMS..layout::RECEIPTS],
+        &book[notices..end],
+        usable,
+        order,
+        rates,
+        all,
+        Yen(amount),
+        lots,
+    )
+}
+
+// Lots of the deliverer's are used.
+fn use_lots(used: &mut [u64], deliverer: usize, lots: &[u64])
+    requires { ⌜ Usable (now used) deliverer (now lots) ⌝ }
+    ensures { λ _. ⌜ Used (now (used .entry)) (now (used .exit)) deliverer (now (lots .entry)) ⌝ }
+{
+    let at = layout::MOST_ISSUES * deliverer;
+    let end = at + lots.len();
+    rows::add(&mut used[at..end], lots);
+}
+
+// Match j as it was filled: its lots are used, and it is listed and booked.
+pub fn write_next(
+    book: &mut [u64],
+    basket: usize,
+    cells: &[u64; 44],
+    j: usize,
+    f: Filling,
+    lots: &mut [u64],
+    used: &mut [u64],
+    matches: &mut [u64],
+    lines: &mut [u64],
+    done: Counts,
+) -> Counts
+    requires { ⌜ Writable (now book) basket (now cells) j f (now lots) (now used) (now matches) (now lines) (done .matches) (done .lines) ⌝ }
+    ensures { λ r. ⌜ Wrote (now (book .entry)) basket (now (cells .entry)) j f (now (lots .entry)) (now (used .entry)) (now (matches .entry)) (now (lines .entry)) (done .matches) (done .lines)
+        (now (book .exit)) (now (used .exit)) (now (matches .exit)) (now (lines .exit)) (r .matches) (r .lines) ⌝ }
+{
+    let deliverer = cells[4 * j];
+    let receiver = cells[4 * j + 1];
+    let amount = cells[4 * j + 2];
+    let forced = f.forced as usize;
+    let further = f.forced_lots;
+    let covered = f.covered;
+    use_lots(used, deliverer as usize, &*lots);
+    lots[forced] = lots[forced] + further.0;
+    listing::write_match(
+        matches,
+        done.matches,
+        basket as u64,
+        deliverer,
+        receiver,
+        Yen(amount),
+        f,
+    );
+    let line = listing::write_lines(lines, done.lines, done.matches as u64, &*lots);
+    booking::move_yen(
+        &mut *book,
+        basket,
+        deliverer as usize,
+        receiver as usize,
+        covered,
+    );
+    booking::move_lots(book, deliverer as usize, receiver as usize, &*lots);
+    Counts {
+        matches: done.matches + 1,
+        lines: line,
+    }
+}

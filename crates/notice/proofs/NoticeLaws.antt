@@ -1,0 +1,100 @@
+-- Laws that the proofs of a notice cite. Assumes nothing.
+use mathlib.Core.Path.{_≡_, refl, sym, ap, ap₂, _∙_}
+use Prim.Native.Nat.{ℕ, _+_, _-_, _*_, _≤_, _<_}
+use native.Mathlib.Omega.{arith}
+use mathlib.Core.Bool.{Bool, true, false, not}
+use mathlib.Core.List.{List}
+use lib.ListN.{length, getD, set, take, drop, length-set}
+use borrow.Rule.Slice.PartMut.{putMid}
+use lib.Dec.{ltb, leb}
+use borrow.Author.Tests.{ltb-true, leb-true}
+use Rattle.lists.specs.Tests.{allBelow}
+use Rattle.lists.specs.Tables.{upTo, zeros}
+use Rattle.lists.specs.Folds.{foldl}
+use Rattle.lists.specs.Parts.{over}
+use Rattle.lists.proofs.TestLaws.{all-at, all-ext, flag-no, flag-yes}
+use Rattle.lists.proofs.FoldLaws.{foldl-upTo}
+use Rattle.lists.proofs.PartLaws.{part-length, part-back}
+use Rattle.rule.specs.Day.{noticeRow, noticed}
+use Rattle.rule.specs.Sound.{noticeLimit}
+use Rattle.rule.specs.Layout.{noticesAt, view, stored}
+use Rattle.rule.proofs.BookLaws.{SoundBook}
+use Rattle.rule.proofs.NoticeLaws.{Noticeable, length-noticeRow, notice-stored}
+use Rattle.notice.specs.Checked.{Named, Written, noticeWritten}
+
+-- ---- the entries below j are in the row
+
+abbrev entry : List ℕ → List ℕ → List ℕ → ℕ → List ℕ
+entry named lots row j = set row (getD named j 0) (getD lots j 0)
+
+pub record Entered (row₀ named lots row : List ℕ) (j : ℕ) : Type 0 where
+  pub here : j ≤ length named
+  pub size : length row ≡ length row₀
+  pub entries : row ≡ foldl (entry named lots) row₀ (upTo j)
+
+module _ (row₀ named lots : List ℕ) where
+  pub entered-none : Entered row₀ named lots row₀ 0
+  entered-none = record { here = omega arith; size = refl; entries = refl }
+
+  pub entered-more : {row : List ℕ} {j : ℕ} → j < length named → Entered row₀ named lots row j → Entered row₀ named lots (set row (getD named j 0) (getD lots j 0)) (j + 1)
+  entered-more {row} {j} l h = record {
+    here = omega arith;
+    size = length-set row (getD named j 0) (getD lots j 0) ∙ h .size;
+    entries = ap (λ (r : List ℕ). entry named lots r j) (h .entries) ∙ sym (foldl-upTo (entry named lots) row₀ j);
+  }
+
+  pub entered-all : {row : List ℕ} {j : ℕ} (m : ℕ) → length named ≤ j → row₀ ≡ zeros m → Entered row₀ named lots row j → row ≡ noticeRow m named lots
+  unfolding noticeRow
+  entered-all {j = j} m l e h =
+      let k : j ≡ length named = omega (arith, h .here) in
+      h .entries ∙ ap₂ (λ (r : List ℕ) (n : ℕ). foldl (entry named lots) r (upTo n)) e k
+
+-- the row that was lent, and is back
+pub row-back : (b : List ℕ) (p m : ℕ) (issues lots c : List ℕ) → m ≡ getD b 1 0 → noticesAt + 32 * p + m ≤ length b
+    → c ≡ noticeRow (length (take (noticesAt + 32 * p + m - (noticesAt + 32 * p)) (drop (noticesAt + 32 * p) b))) issues lots
+    → putMid (noticesAt + 32 * p) (noticesAt + 32 * p + m - (noticesAt + 32 * p)) b c ≡ noticeWritten b p issues lots
+unfolding noticeWritten
+row-back b p m issues lots c e fit h =
+    let k : c ≡ noticeRow m issues lots = h ∙ ap (λ (n : ℕ). noticeRow n issues lots) (part-length b (noticesAt + 32 * p) m fit) in
+    part-back b (noticesAt + 32 * p) m c (ap length k ∙ length-noticeRow m issues lots)
+    ∙ ap₂ (λ (r : List ℕ) (n : ℕ). over b (noticesAt + 32 * p) r) (k ∙ ap (λ (n : ℕ). noticeRow n issues lots) e) e
+
+-- ---- an accepted notice, in a sound book
+
+-- the answer of a scan of the cells from 0 on
+module _ (l : List ℕ) (bound : ℕ) (r : Bool) (e : r ≡ allBelow (length l) (λ i. leb (getD l (0 + i) 0) bound)) where
+  from-zero : r ≡ allBelow (length l) (λ i. leb (getD l i 0) bound)
+  from-zero = e ∙ all-ext _ _ (length l) (λ i h. ap (λ (k : ℕ). leb (getD l k 0) bound) (omega arith))
+
+  pub few-no : not r ≡ true → allBelow (length l) (λ i. leb (getD l i 0) bound) ≡ false
+  few-no h = flag-no r _ from-zero h
+
+  pub few-yes : not r ≡ false → allBelow (length l) (λ i. leb (getD l i 0) bound) ≡ true
+  few-yes h = flag-yes r _ from-zero h
+
+module _ (b : List ℕ) (s : SoundBook b) (p : ℕ) (issues lots : List ℕ) (sender : p < getD b 0 0) (even : length issues ≡ length lots)
+    (named : allBelow (length issues) (λ j. ltb (getD issues j 0) (getD b 1 0)) ≡ true) where
+  of-day : (j : ℕ) → j < length issues → getD issues j 0 < getD b 1 0
+  of-day j l = ltb-true (getD issues j 0) (getD b 1 0) (all-at (λ j. ltb (getD issues j 0) (getD b 1 0)) (length issues) named j l)
+
+  pub writable : Written b p issues lots
+  writable = record {
+    size = s .readable .size;
+    sender = omega (arith, s .sizes .few);
+    most = s .sizes .most;
+    entries = record { lengths = even; named = of-day };
+  }
+
+  module _ (runs : getD b 2 0 < 3) (few : allBelow (length lots) (λ j. leb (getD lots j 0) noticeLimit) ≡ true) where
+    noticeable : Noticeable (view b) p issues lots
+    unfolding view
+    noticeable = record {
+      sender = sender;
+      runs = runs;
+      named = of-day;
+      few = λ j l. leb-true (getD lots j 0) noticeLimit (all-at (λ j. leb (getD lots j 0) noticeLimit) (length lots) few j (omega arith));
+    }
+
+    pub accepted-notice : (c : List ℕ) → c ≡ noticeWritten b p issues lots → c ≡ stored b (noticed (view b) p issues lots)
+    unfolding noticeWritten view
+    accepted-notice c e = e ∙ sym (notice-stored b (s .readable) p issues lots noticeable)

@@ -1,0 +1,2 @@
+-- What the contracts of a notice cite besides the rule.
+pub mod Checked

@@ -1,0 +1,3 @@
+-- What writing a match asks and leaves.
+pub mod Listed
+pub mod Booked

@@ -1,0 +1,3 @@
+-- What the contracts of a trade cite besides the rule.
+pub mod Positions
+pub mod Checked

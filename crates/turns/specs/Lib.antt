@@ -1,0 +1,2 @@
+-- What the contracts of a turn cite besides the rule.
+pub mod Turns
