@@ -1,6 +1,6 @@
 // A notice: "replaces its sender's earlier one for the coming run, unnamed issues counting 0".
 ghost use mathlib.Core.Path.{_≡_};
-ghost use Prim.Native.Nat.{ℕ, _+_, _*_, _≤_, _<_};
+ghost use Prim.Native.Nat.{_+_, _*_, _<_};
 ghost use lib.ListN.{length, getD};
 ghost use lib.Dec.{ltb, eqb};
 ghost use mathlib.Core.Bool.{not};

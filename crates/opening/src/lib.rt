@@ -1,8 +1,8 @@
 // Opening a day: "sizes first (participants, issues), then two parallel arrays, codes and terms .. scheduled receipts .. and pair marks".
 ghost use mathlib.Core.Path.{_≡_};
-ghost use Prim.Native.Nat.{ℕ, _+_, _*_, _≤_, _<_};
+ghost use Prim.Native.Nat.{_+_, _*_, _<_};
 ghost use lib.ListN.{length};
-ghost use Rattle.lists.specs.Parts.{over, written};
+ghost use Rattle.lists.specs.Parts.{over};
 ghost use Rattle.rule.specs.Layout.{openOf};
 ghost use Rattle.rule.specs.Answers.{told};
 ghost use Rattle.opening.specs.Opened.{Wide, Marks, Lengths, Tables, marksWritten, openWritten, openLengths};

@@ -1,6 +1,5 @@
 // A filled match in the book: two positions, a pair of today, two rows of the tally.
 ghost use mathlib.Core.Path.{_≡_};
-ghost use Prim.Native.Nat.{_<_};
 ghost use lib.Dec.{ltb};
 ghost use Rattle.lists.specs.Tests.{pick};
 ghost use Rattle.records.specs.Booked.{Bookable, BookableLots, YenMoved, LotsMoved};

@@ -1,8 +1,5 @@
 // A basket's step of a run: its matches filled one after the other.
-ghost use mathlib.Core.Path.{_≡_};
-ghost use Prim.Native.Nat.{_+_, _*_};
-ghost use lib.ListN.{getD};
-ghost use lib.Dec.{eqb};
+ghost use Prim.Native.Nat.{_+_};
 ghost use Rattle.rule.specs.Layout.{view};
 ghost use Rattle.runs.specs.Running.{doneTo, Done, BasketAsks, AllocateAsks};
 use matched::Counts;

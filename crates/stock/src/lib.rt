@@ -1,6 +1,5 @@
 // What may be used.
 ghost use mathlib.Core.Path.{_≡_};
-ghost use lib.ListN.{getD};
 ghost use Rattle.rows.specs.Rows.{Becomes};
 ghost use Rattle.stock.specs.Stock.{allocableIn, insideOf, usableOf, Issues, Row, Rows, Allocable, Enough, Usable, Usables};
 use rule::Lots;

@@ -1,12 +1,9 @@
 // A trade: "adds its yen to the seller's position in a basket and takes them from the buyer's".
 ghost use mathlib.Core.Path.{_≡_};
-ghost use mathlib.Core.List.{List};
-ghost use Prim.Native.Nat.{ℕ, _+_, _-_, _*_, _≤_, _<_};
-ghost use lib.ListN.{length, getD, set};
+ghost use Prim.Native.Nat.{_+_, _-_, _*_, _<_};
 ghost use Rattle.rule.specs.Layout.{plus, minus, tradeOf};
 ghost use Rattle.rule.proofs.BookLaws.{SoundBook};
 ghost use Rattle.rule.specs.Answers.{told};
-ghost use Rattle.rule.specs.Sound.{positionLimit};
 ghost use Rattle.trade.specs.Positions.{Movable, Tradable, movedOf};
 ghost use Rattle.trade.specs.Checked.{Between, tradeBetween, tradeSound};
 use book::limits;
