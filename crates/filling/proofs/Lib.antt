@@ -5,3 +5,4 @@ pub mod PassLaws
 pub mod WalkLaws
 pub mod NothingLaws
 pub mod MatchLaws
+pub mod KeptLaws

@@ -1,25 +1,24 @@
 -- One match: nothing for nothing, what is forced, what is carried, and when. Assumes nothing.
 use mathlib.Core.Path.{_≡_, refl, sym, ap, _∙_}
-use Prim.Native.Nat.{ℕ, zero, suc, _+_, _-_, _*_, _≤_, _<_, min, zero-le}
+use Prim.Native.Nat.{ℕ, zero, suc, _+_, _-_, _≤_, _<_, min, zero-le}
 use native.Mathlib.Nat.{not-suc-le-zero}
 use native.Mathlib.Omega.{arith}
-use mathlib.Core.Bool.{Bool, true, false}
-use mathlib.Core.Logic.{_⊎_, inl, inr, ⊎-elim}
+use mathlib.Core.Bool.{Bool}
+use mathlib.Core.Logic.{_⊎_, inl, inr}
 use mathlib.Core.List.{List}
 use lib.ListN.{length, getD, take}
 use lib.Seq.{getD-take}
 use lib.Dec.{leb, eqb}
 use borrow.Author.Tests.{le-leb, lt-leb}
-use Rattle.lists.specs.Tables.{zeros}
 use Rattle.lists.proofs.TestLaws.{pick-yes, pick-no, pick-elim}
 use Rattle.rule.specs.Value.{Terms, noTerms, value, fewest}
 use Rattle.rule.specs.Allocable.{unmarked, allocable}
 use Rattle.rule.specs.Filling.{worth, Taken, nothing, others, fill, covered, Filled, forcedIssue, plain, cover, force, carry, filled}
 use Rattle.rule.proofs.FillingLaws.{apart}
 use Rattle.rule.proofs.FilledLaws.{covered-all, covered-most}
-use Rattle.value.specs.Rated.{Rated, Rates, Stocked, termsIn}
-use Rattle.turns.specs.Turns.{besides, Part, Short}
-use Rattle.filling.specs.Rows.{padded, Emptied, Fillable}
+use Rattle.value.specs.Rated.{Rated, termsIn}
+use Rattle.turns.specs.Turns.{besides, Short}
+use Rattle.filling.specs.Rows.{padded, Fillable}
 use Rattle.filling.specs.Match.{Idle, Matchable, Forcible, FilledAs}
 use Rattle.filling.specs.declared.Filling.{Filling}
 use Rattle.filling.proofs.RowLaws.{getD-padded, padded-zeros, length-row}
@@ -30,23 +29,21 @@ use Rattle.forced.proofs.ChoiceLaws.{forced-inside}
 
 -- ---- nothing for an amount of 0
 
-module _ {issues : ℕ} {rates lots usable order : List ℕ} {amount : ℕ} (f : Fillable issues rates lots usable order amount) where
-  pub fill-nothing : amount ≡ 0 → (preferential : Bool) (ts : List Terms) → lots ≡ padded (fill preferential ts (take issues usable) (take issues order) amount .lots)
-  fill-nothing z preferential ts = rw (z, fill-none preferential ts (take issues usable) (take issues order)) empty
+module _ {issues count : ℕ} {rates lots usable order : List ℕ} {amount : ℕ} (f : Fillable issues count rates lots usable order amount) where
+  pub fill-nothing : amount ≡ 0 → (preferential : Bool) (ts : List Terms) → lots ≡ padded (fill preferential ts (take issues usable) (take count order) amount .lots)
+  fill-nothing z preferential ts = rw (z, fill-none preferential ts (take issues usable) (take count order)) empty
     where
       empty : lots ≡ padded (nothing (length (take issues usable)) .lots)
       empty = f .empty ∙ sym (rw (length-row issues usable (omega (arith, f .stock .issues-most, f .stock .wide))) (padded-zeros issues (f .stock .issues-most)))
 
 -- ---- the amount is carried in part, or whole
 
-pub carried : {issues : ℕ} {rates lots usable order : List ℕ} {amount part : ℕ} (all : ℕ) → Fillable issues rates lots usable order amount
-    → part ≡ covered amount all → Fillable issues rates lots usable order part
+pub carried : {issues count : ℕ} {rates lots usable order : List ℕ} {amount part : ℕ} (all : ℕ) → Fillable issues count rates lots usable order amount
+    → part ≡ covered amount all → Fillable issues count rates lots usable order part
 carried {amount = amount} all f e = record {
   stock = f .stock;
   empty = f .empty;
-  long = f .long;
-  inside = f .inside;
-  once = f .once;
+  named = f .named;
   amount-most = omega (arith, e, covered-most amount all, f .amount-most);
 }
 
@@ -157,32 +154,34 @@ module _ (runs all amount : ℕ) where
 
 -- ---- what the calls ask
 
-module _ {issues : ℕ} {terms notified usable order rates lots : List ℕ} {all amount : ℕ} (m : Matchable issues terms notified usable order rates all amount lots) where
-  stocked : Stocked issues usable rates
-  stocked = record {
-    terms = termsIn issues terms;
-    sized = terms-length issues terms;
-    rated = m .rated;
-    issues-most = m .issues-most;
-    wide = m .wide;
-    usable-most = m .usable-most;
+module _ {issues count : ℕ} {terms notified usable order rates lots : List ℕ} {all amount : ℕ}
+    (m : Matchable issues count terms notified usable order rates all amount lots) where
+  pub fillable : Fillable issues count rates lots usable order amount
+  fillable = record {
+    stock = record {
+      terms = termsIn issues terms;
+      sized = terms-length issues terms;
+      rated = m .rated;
+      issues-most = m .issues-most;
+      wide = m .wide;
+      usable-most = m .usable-most;
+    };
+    empty = m .empty;
+    named = m .named;
+    amount-most = m .amount-most;
   }
 
-  module _ {lots′ : List ℕ} (empty : lots′ ≡ zeros 32) where
-    pub fillable : Fillable issues rates lots′ usable order amount
-    fillable = record { stock = stocked; empty = empty; long = m .long; inside = m .inside; once = m .once; amount-most = m .amount-most }
-
-    pub forcible : all < amount → Forcible issues terms notified usable rates all amount lots′
-    forcible l = record {
-      issues-least = m .issues-least;
-      cells = m .cells;
-      notified-there = m .notified-there;
-      rated = m .rated;
-      emptied = record { empty = empty; wide = m .wide; issues-most = m .issues-most };
-      sum = m .all-is;
-      below = l;
-      amount-most = m .amount-most;
-    }
+  pub forcible : all < amount → Forcible issues terms notified usable rates all amount lots
+  forcible l = record {
+    issues-least = m .issues-least;
+    cells = m .cells;
+    notified-there = m .notified-there;
+    rated = m .rated;
+    emptied = record { empty = m .empty; wide = m .wide; issues-most = m .issues-most };
+    sum = m .all-is;
+    below = l;
+    amount-most = m .amount-most;
+  }
 
 -- ---- for callers: no more may be used than was notified, and the lots read by issue
 

@@ -1,20 +1,22 @@
--- An order that names no place twice. General but for the last law: for crate lists. Assumes nothing.
+-- An order that names no place twice. Assumes nothing.
 use mathlib.Core.Path.{_≡_, refl, sym, ap, _∙_}
 use Prim.Native.Nat.{ℕ, zero, suc, _+_, _≤_, _<_}
 use native.Mathlib.Nat.{not-suc-le-zero, le-of-suc-le-suc}
 use native.Mathlib.Omega.{arith}
+use mathlib.Core.Bool.{Bool}
 use mathlib.Core.List.{List, [], _∷_}
 use lib.ListN.{length, getD, take}
-use lib.Seq.{getD-take}
+use lib.Seq.{getD-take, length-take-le}
 use lib.Dec.{eqb}
 use borrow.Author.Tests.{eq-eqb, eqb-true}
 use Rattle.lists.specs.Tests.{pick}
 use Rattle.lists.specs.Tables.{from, upTo}
-use Rattle.lists.specs.Folds.{total}
+use Rattle.lists.specs.Folds.{total, keep}
 use Rattle.lists.specs.Order.{ranked}
 use Rattle.lists.proofs.TestLaws.{pick-cases}
-use Rattle.lists.proofs.TableLaws.{length-from}
-use Rattle.lists.proofs.OrderLaws.{total-sorted, length-sorted}
+use Rattle.lists.proofs.FoldLaws.{every-at, every-keep, total-keep}
+use Rattle.lists.proofs.OrderLaws.{total-sorted, ranked-below}
+use Rattle.filling.specs.Rows.{Named}
 
 -- how often p stands in a list
 abbrev times : ℕ → List ℕ → ℕ
@@ -46,21 +48,25 @@ one-place p (x ∷ xs) m zero (suc k) h i d e = absurd (omega (arith, rw (eq-eqb
 one-place p (x ∷ xs) m (suc j) zero h i d e = absurd (omega (arith, rw (eq-eqb x p e) at m, counted-at p xs j (le-of-suc-le-suc h) d))
 one-place p (x ∷ xs) m (suc j) (suc k) h i d e = ap suc (one-place p xs (omega arith) j k (le-of-suc-le-suc h) (le-of-suc-le-suc i) d e)
 
-pub length-ranked : (key : ℕ → ℕ) (n : ℕ) → length (ranked key n) ≡ n
-length-ranked key n = length-sorted key (upTo n) ∙ length-from 0 n
+-- ---- for callers: what is kept of a ranking names issues of the day, none of them twice
 
--- a ranking of the places below n names none twice
-pub ranked-once : (key : ℕ → ℕ) (n j k : ℕ) → j < n → k < n → getD (ranked key n) j 0 ≡ getD (ranked key n) k 0 → j ≡ k
-ranked-once key n j k h i e =
-    let p : ℕ = getD (ranked key n) k 0 in
-    one-place p (ranked key n) (rw (total-sorted key (λ x. pick (eqb x p) 1 0) (upTo n)) (at-most-once p 0 n)) j k
-    (omega (arith, length-ranked key n)) (omega (arith, length-ranked key n)) e refl
-
--- ---- for callers: what a match asks of its order
-
-pub order-once : (issues : ℕ) (key : ℕ → ℕ) (order : List ℕ) → take issues order ≡ ranked key issues
-    → (j k : ℕ) → j < issues → k < issues → getD order j 0 ≡ getD order k 0 → j ≡ k
-order-once issues key order o j k h i e = ranked-once key issues j k h i (place j h ∙ (e ∙ sym (place k i)))
+pub order-named : (issues count : ℕ) (key : ℕ → ℕ) (live : ℕ → Bool) (order : List ℕ) → length order ≡ 32 → issues ≤ 32 → count ≤ issues
+    → take count order ≡ keep live (ranked key issues) → Named issues count order
+order-named issues count key live order long most few e = record {
+  long = long;
+  few = omega arith;
+  inside = λ k h. rw (← place k h) (every-at (λ i. i < issues) 0 kept (every-keep (λ i. i < issues) live (ranked key issues) (ranked-below key issues)) k (omega (arith, size)));
+  once = λ j k h i q.
+      let p : ℕ = getD order k 0 in
+      one-place p kept (omega (arith, total-keep (λ x. pick (eqb x p) 1 0) live (ranked key issues), total-sorted key (λ x. pick (eqb x p) 1 0) (upTo issues), at-most-once p 0 issues))
+      j k (omega (arith, size)) (omega (arith, size)) (place j h ∙ q) (place k i);
+}
   where
-    place : (k : ℕ) → k < issues → getD (ranked key issues) k 0 ≡ getD order k 0
-    place k h = rw (← o) (getD-take issues order k 0 h)
+    kept : List ℕ
+    kept = keep live (ranked key issues)
+
+    size : length kept ≡ count
+    size = ap length (sym e) ∙ length-take-le count order (omega arith)
+
+    place : (k : ℕ) → k < count → getD kept k 0 ≡ getD order k 0
+    place k h = ap (λ (l : List ℕ). getD l k 0) (sym e) ∙ getD-take count order k 0 h

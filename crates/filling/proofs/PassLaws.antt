@@ -2,12 +2,12 @@
 -- reached the rest of this pass and the later ones change nothing. Assumes nothing.
 use mathlib.Core.Path.{_≡_, refl, sym, ap, _∙_}
 use mathlib.Core.Logic.{_≢_}
-use Prim.Native.Nat.{ℕ, zero, suc, _+_, _-_, _*_, _/_, _%_, _≤_, _<_, min, max}
+use Prim.Native.Nat.{ℕ, zero, suc, _+_, _-_, _*_, _/_, _≤_, _<_, min, max}
 use native.Mathlib.Nat.{le-refl, le-trans, not-suc-le-zero}
 use native.Mathlib.Decide.{decLe}
 use native.Mathlib.Omega.{arith}
-use mathlib.Core.List.{List, [], _∷_, _++_}
-use lib.ListN.{length, getD, take, drop, set, take-append-drop}
+use mathlib.Core.List.{List, [], _∷_}
+use lib.ListN.{length, getD, take, drop, take-append-drop}
 use lib.Seq.{getD-set-other}
 use Rattle.lists.specs.Tables.{zeros}
 use Rattle.lists.specs.Folds.{foldl, Every}
@@ -42,10 +42,21 @@ after ts usable order amount p k = foldl (step ts usable order amount p) (begun 
 pub record Stands (ts : List Terms) (usable order : List ℕ) (amount pass : ℕ) (s : Taken) : Type 0 where
   pub sized : length (s .lots) ≡ length ts
   pub bounded : (i : ℕ) → lotsOf s i ≤ boundOf pass (getD usable i 0) (lotsOf s i)
-  pub whole : pass ≡ 1 → (i : ℕ) → lotsOf s i / unit * unit ≡ lotsOf s i
+  pub within : (i : ℕ) → lotsOf s i ≤ getD usable i 0
   pub kept : pass ≡ 1 → worth ts (s .lots) ≤ target amount
   pub turned : (i : ℕ) → i < length ts
       → step ts usable order amount pass s i ≡ become s i (nextOf pass (getD ts i noTerms) (getD usable i 0) (lotsOf s i) (worth ts (s .lots)) amount)
+
+-- and of the n lots of an issue that the pass did not meet yet
+pub record Unmet (pass n : ℕ) : Type 0 where
+  pub none : pass ≡ 1 → n ≡ 0
+  pub whole : pass ≡ 2 → n / unit * unit ≡ n
+
+-- a pass does not change the lots of an issue that it does not meet
+fold-other : (f : Taken → ℕ → Taken) → ((s : Taken) (i j : ℕ) → j ≢ i → lotsOf (f s i) j ≡ lotsOf s j)
+    → (xs : List ℕ) (j : ℕ) → Every (λ i. j ≢ i) xs → (s : Taken) → lotsOf (foldl f s xs) j ≡ lotsOf s j
+fold-other f other [] j q s = refl
+fold-other f other (i ∷ is) j q s = fold-other f other is j (q .1) (f s i) ∙ other s i j (q .0)
 
 -- a fold in two parts: for crate lists
 foldl-split : {A B : Type 0} (f : B → A → B) (xs : List A) (k : ℕ) (s : B) → foldl f s xs ≡ foldl f (foldl f s (take k xs)) (drop k xs)
@@ -79,18 +90,17 @@ module _ (ts : List Terms) (priced : Priced ts) (usable : List ℕ) (order : Lis
     walk-above [] q s g j = le-refl _
     walk-above (i ∷ is) q s g j = le-trans (step-above s i g j) (walk-above is (q .1) (takeUpTo ts amount bound s i) (step-good s i (q .0) g) j)
 
-    -- nor changes the lots of an issue that it does not meet
-    step-other : (s : Taken) (i j : ℕ) → j ≢ i → lotsOf (takeUpTo ts amount bound s i) j ≡ lotsOf s j
+    up-to-other : (s : Taken) (i j : ℕ) → j ≢ i → lotsOf (takeUpTo ts amount bound s i) j ≡ lotsOf s j
     unfolding takeUpTo become
-    step-other s i j d = getD-set-other (s .lots) i j _ 0 d
+    up-to-other s i j d = getD-set-other (s .lots) i j _ 0 d
 
-    walk-other : (xs : List ℕ) (j : ℕ) → Every (λ i. j ≢ i) xs → (s : Taken) → lotsOf (foldl (takeUpTo ts amount bound) s xs) j ≡ lotsOf s j
-    walk-other [] j q s = refl
-    walk-other (i ∷ is) j q s = walk-other is j (q .1) (takeUpTo ts amount bound s i) ∙ step-other s i j (q .0)
-
-  -- ---- where the target is reached the rest of the first pass changes nothing
+  -- ---- the first pass: where the target is reached the rest of it changes nothing
 
   module _ (goal : ℕ) where
+    units-other : (s : Taken) (i j : ℕ) → j ≢ i → lotsOf (takeUnits ts goal usable s i) j ≡ lotsOf s j
+    unfolding takeUnits become
+    units-other s i j d = getD-set-other (s .lots) i j _ 0 d
+
     abbrev units : Taken → ℕ → ℕ
     units s i = min (may i / unit) (most (getD ts i noTerms) (goal - others ts s i) / unit) * unit
 
@@ -126,7 +136,7 @@ module _ (ts : List Terms) (priced : Priced ts) (usable : List ℕ) (order : Lis
   stands-first s u = record {
     sized = u .good .sized;
     bounded = λ i. u .good .bounded i;
-    whole = λ e. u .whole;
+    within = λ i. omega (arith, u .good .bounded i);
     kept = λ e. u .kept;
     turned = λ i h. rw (besides-others s i h (u .good .sized));
   }
@@ -136,7 +146,7 @@ module _ (ts : List Terms) (priced : Priced ts) (usable : List ℕ) (order : Lis
   stands-third s g = record {
     sized = g .sized;
     bounded = λ i. g .bounded i;
-    whole = λ e. absurd (omega arith);
+    within = g .bounded;
     kept = λ e. absurd (omega arith);
     turned = λ i h. rw (besides-others s i h (g .sized));
   }
@@ -182,7 +192,7 @@ module _ (ts : List Terms) (priced : Priced ts) (usable : List ℕ) (order : Lis
     stands-second s b = record {
       sized = b .good .sized;
       bounded = λ i. omega (arith, between-units s b i, b .good .bounded i);
-      whole = λ e. absurd (omega arith);
+      within = λ i. omega (arith, b .good .bounded i, first-units .good .bounded i);
       kept = λ e. absurd (omega arith);
       turned = λ i h. rw (besides-others s i h (b .good .sized), between-units s b i);
     }
@@ -196,10 +206,12 @@ module _ (ts : List Terms) (priced : Priced ts) (usable : List ℕ) (order : Lis
           above = walk-above remainders (take k order) q first first-within;
         }
 
-    -- an issue that is not met yet in the second pass has whole units
-    pub second-whole : (p k j : ℕ) → p ≡ 2 → Every (λ i. j ≢ i) (take k order)
-        → lotsOf (after ts usable order amount p k) j / unit * unit ≡ lotsOf (after ts usable order amount p k) j
-    second-whole p k j e q = rw (e, walk-other remainders (take k order) j q first) (first-units .whole j)
+    -- an issue that is not met yet has nothing in the first pass, and whole units in the second
+    pub unmet : (p k j : ℕ) → Every (λ i. j ≢ i) (take k order) → Unmet p (lotsOf (after ts usable order amount p k) j)
+    unmet p k j q = record {
+      none = λ e. rw e (fold-other (takeUnits ts (target amount) usable) (units-other (target amount)) (take k order) j q (nothing (length usable)) ∙ getD-zeros (length usable) j);
+      whole = λ e. rw (e, fold-other (takeUpTo ts amount remainders) (up-to-other remainders) (take k order) j q first) (first-units .whole j);
+    }
 
     second-within : Good ts may (secondPass ts usable order amount)
     unfolding secondPass walk withRemainder

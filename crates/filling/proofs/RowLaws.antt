@@ -1,18 +1,27 @@
--- Rows of 32 cells of which the first are in use. Assumes nothing.
+-- Rows of 32 cells of which the first are in use, and an issue's turn in one. Assumes nothing.
 use mathlib.Core.Path.{_≡_, refl, sym, ap, _∙_}
-use Prim.Native.Nat.{ℕ, zero, suc, _+_, _-_, _≤_, _<_, suc-le-suc, zero-le}
+use Prim.Native.Nat.{ℕ, zero, suc, _+_, _-_, _≤_, _<_, zero-le}
+use mathlib.Core.Bool.{true, false}
 use mathlib.Core.Logic.{_≢_}
 use native.Mathlib.Decide.{ℕ-discrete}
 use native.Mathlib.Numerals.{add-one}
 use native.Mathlib.Omega.{arith}
 use mathlib.Core.List.{List, [], _∷_, _++_}
-use lib.ListN.{length, getD, take, drop, set, length-append, length-set, length-take}
-use lib.Seq.{ext-getD, set-append-left, getD-take, getD-set-same, getD-set-other}
+use lib.ListN.{length, getD, take, set, length-append, length-set, length-take}
+use lib.Seq.{ext-getD, set-append-left, set-getD, getD-take, getD-set-same, getD-set-other}
+use lib.Dec.{leb}
+use borrow.Author.Tests.{lt-leb, leb-true, leb-false}
 use Rattle.lists.specs.Tables.{zeros}
 use Rattle.lists.specs.Folds.{Every}
 use Rattle.lists.proofs.FoldLaws.{every-index}
 use Rattle.lists.proofs.TableLaws.{length-table, getD-zeros}
-use Rattle.filling.specs.Rows.{padded}
+use Rattle.rule.specs.Value.{Terms, value}
+use Rattle.value.specs.Rated.{Rated}
+use Rattle.turns.specs.Turns.{nextOf, Turnable, Took}
+use Rattle.turns.specs.declared.Turn.{Turn}
+use Rattle.turns.proofs.TurnLaws.{part-within}
+use Rattle.filling.specs.Rows.{padded, Stepped}
+use Rattle.filling.specs.declared.Step.{Step}
 
 getD-then-zeros : (l : List ℕ) (n i : ℕ) → getD (l ++ zeros n) i 0 ≡ getD l i 0
 getD-then-zeros [] n i = getD-zeros n i
@@ -83,3 +92,31 @@ module _ {from to : List ℕ} {n : ℕ} where
       let e : i ≡ n = omega (arith, c .at) in
       ext-getD 0 to (padded (take n from)) (c .places ∙ sym (length-padded (take n from) (omega (arith, length-row n from w))))
       (λ k b. (rw e at (c .each k)) ∙ sym (getD-padded (take n from) k))
+
+-- ---- an issue's turn in a row of lots
+
+module _ {pass w : ℕ} {lots usable : List ℕ} {i reached amount : ℕ} where
+  module _ (p : Turnable pass w (getD lots i 0) (getD usable i 0) reached amount) {r : Turn}
+      (e : (t : Terms) → Rated t w → Took t (getD lots i 0) reached (nextOf pass t (getD usable i 0) (getD lots i 0) reached amount) r) where
+    -- nothing is taken, and the amount is not reached, as before
+    pub step-idle : r .taken ≡ false → {s : Step} → s .reached .0 ≡ reached → s .ends ≡ false → Stepped pass w lots usable i reached amount lots s
+    step-idle none {s} v d = record {
+      turned = λ t q.
+          let n = e t q .still none in
+          record { cells = sym (rw n (set-getD lots i 0)); worth = omega (arith, v, ap (value t) n, part-within (p .part) q) };
+      ends = d ∙ sym (lt-leb amount (s .reached .0) (omega (arith, v, p .below)));
+    }
+
+    pub step-taken : {s : Step} → s .reached .0 ≡ r .reached .0 → s .ends ≡ leb amount (r .reached .0)
+        → Stepped pass w lots usable i reached amount (set lots i (r .lots .0)) s
+    step-taken v d = record {
+      turned = λ t q. let a = e t q .turned in record { cells = ap (set lots i) (a .lots); worth = v ∙ a .worth };
+      ends = d ∙ ap (leb amount) (sym v);
+    }
+
+  module _ {after : List ℕ} {s : Step} (t : Stepped pass w lots usable i reached amount after s) where
+    pub goes-on : s .ends ≡ false → s .reached .0 < amount
+    goes-on e = leb-false amount (s .reached .0) (sym (t .ends) ∙ e)
+
+    pub ended : s .ends ≡ true → amount ≤ s .reached .0
+    ended e = leb-true amount (s .reached .0) (sym (t .ends) ∙ e)

@@ -4,10 +4,11 @@ use mathlib.Core.Bool.{Bool}
 use mathlib.Core.List.{List}
 use Prim.Native.Nat.{ℕ, _*_, _≤_, _<_}
 use lib.ListN.{length, getD, take}
+use Rattle.lists.specs.Tables.{zeros}
 use Rattle.rule.specs.Value.{Terms}
 use Rattle.rule.specs.Filling.{worth, Filled, filled}
 use Rattle.value.specs.Rated.{Rates, termsIn}
-use Rattle.filling.specs.Rows.{padded, Emptied}
+use Rattle.filling.specs.Rows.{padded, Emptied, Named}
 use Rattle.filling.specs.declared.Filling.{Filling}
 
 -- the amount of a match
@@ -19,19 +20,17 @@ pub record Idle (runs all amount : ℕ) : Type 0 where
   pub same : (preferential : Bool) (ts : List Terms) (usable order order′ : List ℕ) (forced : ℕ) → all ≡ worth ts usable
       → filled runs preferential ts usable order forced amount ≡ filled runs preferential ts usable order′ forced amount
 
--- the order names issues of the day, none of them twice; all usable lots are worth `all`
-pub record Matchable (issues : ℕ) (terms notified usable order rates : List ℕ) (all amount : ℕ) (lots : List ℕ) : Type 0 where
+-- an order of issues; all usable lots are worth `all`, and the match has nothing yet
+pub record Matchable (issues count : ℕ) (terms notified usable order rates : List ℕ) (all amount : ℕ) (lots : List ℕ) : Type 0 where
   pub issues-least : 1 ≤ issues
   pub issues-most : issues ≤ 32
   pub cells : 6 * issues ≤ length terms
   pub notified-there : issues ≤ length notified
   pub wide : length usable ≡ 32
-  pub long : length order ≡ 32
-  pub places : length lots ≡ 32
+  pub empty : lots ≡ zeros 32
   pub rated : Rates (termsIn issues terms) rates
   pub usable-most : (i : ℕ) → i < issues → getD usable i 0 ≤ 200_000_000
-  pub inside : (k : ℕ) → k < issues → getD order k 0 < issues
-  pub once : (j k : ℕ) → j < issues → k < issues → getD order j 0 ≡ getD order k 0 → j ≡ k
+  pub named : Named issues count order
   pub all-is : all ≡ worth (termsIn issues terms) (take issues usable)
   pub amount-most : amount ≤ 10_000_000_000_000
 

@@ -4,17 +4,22 @@ ghost use mathlib.Core.Path.{_≡_};
 ghost use mathlib.Core.Bool.{false};
 ghost use mathlib.Core.List.{List};
 ghost use lib.ListN.{length, getD, take};
-ghost use Rattle.lists.specs.Tables.{zeros};
 ghost use Rattle.rule.specs.Value.{Terms};
 ghost use Rattle.rule.specs.Filling.{worth as worthOf, covered as coveredOf, fillPreferential, fillDrawn, fill as fillOf, forcedIssue, force as forceOf, carry as carryOf, filled};
-ghost use Rattle.value.specs.Rated.{Rated, Rates, termsIn};
-ghost use Rattle.filling.specs.Rows.{Ready, RowTurned, padded, Row, Emptied, Fillable, Wanted};
+ghost use Rattle.value.specs.Rated.{Rates, termsIn};
+ghost use Rattle.filling.specs.Rows.{Ready, Stepped, padded, Emptied, Fillable, Wanted};
 ghost use Rattle.filling.specs.Match.{Coverable, Idle, Matchable, Forcible, FilledAs};
 use rule::Lots;
 use rule::Yen;
 use value::Rate;
 
-// The turn of issue i: what the match then has of it goes into lots, and what the match is then worth comes back.
+// What a match is worth after a turn, and whether it ends there: the amount is reached.
+struct Step {
+    reached: Yen,
+    ends: bool,
+}
+
+// The turn of issue i: what the match then has of it goes into lots.
 fn take_turn(
     lots: &mut [u64; 32],
     usable: &[u64; 32],
@@ -23,9 +28,9 @@ fn take_turn(
     pass: u64,
     i: usize,
     reached: Yen,
-) -> Yen
+) -> Step
     requires { ⌜ Ready pass (now rates) (now lots) (now usable) i (reached .0) (amount .0) ⌝ }
-    ensures { λ r. ⌜ ((t : Terms) → Rated t (getD (now (rates .entry)) i 0) → RowTurned pass t (now (lots .entry)) (now (usable .entry)) i (reached .0) (amount .0) (now (lots .exit)) (r .0)) ⌝ }
+    ensures { λ r. ⌜ Stepped pass (getD (now (rates .entry)) i 0) (now (lots .entry)) (now (usable .entry)) i (reached .0) (amount .0) (now (lots .exit)) r ⌝ }
 {
     let had = lots[i];
     let t = turns::next(
@@ -36,9 +41,19 @@ fn take_turn(
         reached,
         amount,
     );
+    if !t.taken {
+        return Step {
+            reached,
+            ends: false,
+        };
+    }
     let n = t.lots;
     lots[i] = n.0;
-    t.reached
+    let worth = t.reached;
+    Step {
+        reached: worth,
+        ends: amount.0 <= worth.0,
+    }
 }
 
 // "A preferential match walks the issues .. and ends with the fewest lots that reach the amount".
@@ -48,16 +63,18 @@ fn fill_preferential(
     rates: &[u64; 32],
     order: &[u64; 32],
     issues: usize,
+    count: usize,
     amount: Yen,
 )
-    requires { ⌜ Wanted issues (now rates) (now lots) (now usable) (now order) (amount .0) ⌝ }
-    ensures { λ r. ⌜ ((ts : List Terms) → length ts ≡ issues → Rates ts (now (rates .entry)) → now (lots .exit) ≡ padded (fillPreferential ts (take issues (now (usable .entry))) (take issues (now (order .entry))) (amount .0) .lots)) ⌝ }
+    requires { ⌜ Wanted issues count (now rates) (now lots) (now usable) (now order) (amount .0) ⌝ }
+    ensures { λ r. ⌜ ((ts : List Terms) → length ts ≡ issues → Rates ts (now (rates .entry)) → now (lots .exit) ≡ padded (fillPreferential ts (take issues (now (usable .entry))) (take count (now (order .entry))) (amount .0) .lots)) ⌝ }
 {
     let mut reached = Yen(0);
-    for k in 0..issues {
+    for k in 0..count {
         let i = order[k] as usize;
-        reached = take_turn(lots, usable, rates, amount, 3, i, reached);
-        if amount.0 <= reached.0 {
+        let step = take_turn(lots, usable, rates, amount, 3, i, reached);
+        reached = step.reached;
+        if step.ends {
             break;
         }
     }
@@ -70,17 +87,19 @@ fn fill_drawn(
     rates: &[u64; 32],
     order: &[u64; 32],
     issues: usize,
+    count: usize,
     amount: Yen,
 )
-    requires { ⌜ Wanted issues (now rates) (now lots) (now usable) (now order) (amount .0) ⌝ }
-    ensures { λ r. ⌜ ((ts : List Terms) → length ts ≡ issues → Rates ts (now (rates .entry)) → now (lots .exit) ≡ padded (fillDrawn ts (take issues (now (usable .entry))) (take issues (now (order .entry))) (amount .0) .lots)) ⌝ }
+    requires { ⌜ Wanted issues count (now rates) (now lots) (now usable) (now order) (amount .0) ⌝ }
+    ensures { λ r. ⌜ ((ts : List Terms) → length ts ≡ issues → Rates ts (now (rates .entry)) → now (lots .exit) ≡ padded (fillDrawn ts (take issues (now (usable .entry))) (take count (now (order .entry))) (amount .0) .lots)) ⌝ }
 {
     let mut reached = Yen(0);
     'passes: for pass in 1u64..4 {
-        for k in 0..issues {
+        for k in 0..count {
             let i = order[k] as usize;
-            reached = take_turn(lots, usable, rates, amount, pass, i, reached);
-            if amount.0 <= reached.0 {
+            let step = take_turn(lots, usable, rates, amount, pass, i, reached);
+            reached = step.reached;
+            if step.ends {
                 break 'passes;
             }
         }
@@ -110,16 +129,6 @@ pub struct Filling {
     pub forced_lots: Lots,
 }
 
-// The match has nothing yet.
-fn clear(lots: &mut [u64; 32])
-    requires { ⌜ Row (now lots) ⌝ }
-    ensures { λ r. ⌜ now (lots .exit) ≡ zeros 32 ⌝ }
-{
-    for i in 0usize..32 {
-        lots[i] = 0;
-    }
-}
-
 // "all usable lots go": into a match that has nothing yet.
 fn take_all(lots: &mut [u64; 32], usable: &[u64; 32], issues: usize)
     requires { ⌜ Emptied issues (now lots) (now usable) ⌝ }
@@ -138,19 +147,20 @@ fn fill(
     rates: &[u64; 32],
     order: &[u64; 32],
     issues: usize,
+    count: usize,
     amount: Yen,
 )
-    requires { ⌜ Fillable issues (now rates) (now lots) (now usable) (now order) (amount .0) ⌝ }
-    ensures { λ r. ⌜ ((ts : List Terms) → length ts ≡ issues → Rates ts (now (rates .entry)) → now (lots .exit) ≡ padded (fillOf preferential ts (take issues (now (usable .entry))) (take issues (now (order .entry))) (amount .0) .lots)) ⌝ }
+    requires { ⌜ Fillable issues count (now rates) (now lots) (now usable) (now order) (amount .0) ⌝ }
+    ensures { λ r. ⌜ ((ts : List Terms) → length ts ≡ issues → Rates ts (now (rates .entry)) → now (lots .exit) ≡ padded (fillOf preferential ts (take issues (now (usable .entry))) (take count (now (order .entry))) (amount .0) .lots)) ⌝ }
 {
     if amount.0 == 0 {
         return;
     }
     if preferential {
-        fill_preferential(lots, usable, rates, order, issues, amount);
+        fill_preferential(lots, usable, rates, order, issues, count, amount);
         return;
     }
-    fill_drawn(lots, usable, rates, order, issues, amount);
+    fill_drawn(lots, usable, rates, order, issues, count, amount);
 }
 
 // "In run 3 all usable lots go, and the fewest further lots of one forced issue reach the amount".
@@ -187,14 +197,24 @@ fn carry(
     rates: &[u64; 32],
     order: &[u64; 32],
     issues: usize,
+    count: usize,
     all: Yen,
     amount: Yen,
 ) -> Filling
-    requires { ⌜ Fillable issues (now rates) (now lots) (now usable) (now order) (amount .0) ⌝ }
-    ensures { λ r. ⌜ ((ts : List Terms) → length ts ≡ issues → Rates ts (now (rates .entry)) → all .0 ≡ worthOf ts (take issues (now (usable .entry))) → FilledAs (carryOf preferential ts (take issues (now (usable .entry))) (take issues (now (order .entry))) (amount .0)) r (now (lots .exit))) ⌝ }
+    requires { ⌜ Fillable issues count (now rates) (now lots) (now usable) (now order) (amount .0) ⌝ }
+    ensures { λ r. ⌜ ((ts : List Terms) → length ts ≡ issues → Rates ts (now (rates .entry)) → all .0 ≡ worthOf ts (take issues (now (usable .entry))) → FilledAs (carryOf preferential ts (take issues (now (usable .entry))) (take count (now (order .entry))) (amount .0)) r (now (lots .exit))) ⌝ }
 {
     let part = covered(amount, all);
-    fill(preferential, lots, usable, rates, order, issues, part);
+    fill(
+        preferential,
+        lots,
+        usable,
+        rates,
+        order,
+        issues,
+        count,
+        part,
+    );
     Filling {
         covered: part,
         forced: 0,
@@ -217,8 +237,9 @@ pub fn goes_through(runs: u64, all: Yen, amount: Yen) -> bool
     rest.0 > 0
 }
 
-// One match, filled: `runs` are the runs done, `all` is what all usable lots are worth, and the lots go into a lent row. What is
-// short is forced in run 3 and carried before; where nothing is short, all of the amount is covered.
+// One match, filled: `runs` are the runs done, the first `count` cells of the order are gone through, `all` is what all usable lots are
+// worth, and the lots go into a lent row of zeros. What is short is forced in run 3 and carried before; where nothing is short, all of
+// the amount is covered.
 pub fn fill_match(
     runs: u64,
     preferential: bool,
@@ -228,15 +249,15 @@ pub fn fill_match(
     notified: &[u64],
     usable: &[u64; 32],
     order: &[u64; 32],
+    count: usize,
     rates: &[u64; 32],
     all: Yen,
     amount: Yen,
     lots: &mut [u64; 32],
 ) -> Filling
-    requires { ⌜ Matchable issues (now terms) (now notified) (now usable) (now order) (now rates) (all .0) (amount .0) (now lots) ⌝ }
-    ensures { λ r. ⌜ FilledAs (filled runs preferential (termsIn issues (now (terms .entry))) (take issues (now (usable .entry))) (take issues (now (order .entry))) (forcedIssue basket (termsIn issues (now (terms .entry))) (take issues (now (notified .entry)))) (amount .0)) r (now (lots .exit)) ⌝ }
+    requires { ⌜ Matchable issues count (now terms) (now notified) (now usable) (now order) (now rates) (all .0) (amount .0) (now lots) ⌝ }
+    ensures { λ r. ⌜ FilledAs (filled runs preferential (termsIn issues (now (terms .entry))) (take issues (now (usable .entry))) (take count (now (order .entry))) (forcedIssue basket (termsIn issues (now (terms .entry))) (take issues (now (notified .entry)))) (amount .0)) r (now (lots .exit)) ⌝ }
 {
-    clear(lots);
     if runs >= 2 && all.0 < amount.0 {
         return force(
             lots,
@@ -257,6 +278,7 @@ pub fn fill_match(
         rates,
         order,
         issues,
+        count,
         all,
         amount,
     )

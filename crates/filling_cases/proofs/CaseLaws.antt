@@ -1,17 +1,21 @@
 -- What a case's tests say is what the calls ask. Assumes nothing.
-use mathlib.Core.Path.{_≡_, _∙_}
-use mathlib.Core.List.{List}
-use Prim.Native.Nat.{ℕ, _+_, _*_, _≤_, _<_, _%_}
+use mathlib.Core.Path.{_≡_, refl, sym, ap, _∙_}
+use mathlib.Core.List.{List, _++_}
+use Prim.Native.Nat.{ℕ, _+_, _*_, _≤_, _<_}
 use native.Mathlib.Omega.{arith}
-use lib.ListN.{length, getD, take}
+use lib.ListN.{length, getD, take, length-append, length-take}
+use lib.Seq.{getD-take, length-take-le, take-append-le}
+use Rattle.lists.specs.Tables.{zeros}
+use Rattle.lists.specs.Order.{ranked}
 use Rattle.rule.specs.Value.{Terms}
 use Rattle.rule.specs.Filling.{worth}
 use Rattle.value.specs.Rated.{Rates, Termed, termsIn, Stocked}
 use Rattle.value.proofs.TermLaws.{terms-length}
 use Rattle.filling.specs.Match.{Matchable}
-use Rattle.filling.proofs.OnceLaws.{order-once}
-use Rattle.ordering.specs.Ordered.{Arranged, Ordered, Orderable, Started}
-use Rattle.ordering.proofs.OrderLaws.{ordered-inside, arranged-numbered}
+use Rattle.filling.proofs.OnceLaws.{order-named}
+use Rattle.ordering.specs.Ordered.{Ordered, Orderable}
+use Rattle.ranking.specs.Ranks.{Rankable}
+use Rattle.ranking.proofs.RankLaws.{length-ranked}
 use Rattle.filling_cases.specs.Ranges.{Issues, Fit}
 
 module _ {issues : ℕ} {terms : List ℕ} (day : Issues issues terms) where
@@ -25,21 +29,39 @@ module _ {issues : ℕ} {terms : List ℕ} (day : Issues issues terms) where
     quoted = λ i k. h i k .quoted;
   }
 
-  -- the issues by number are an order to begin with
-  arranged : {before order : List ℕ} → length before ≡ 32 → Started before order → Arranged issues order
-  arranged e s =
-      arranged-numbered (omega (arith, e, s .size, day .most)) (λ i l. s .cells i (omega (arith, e, s .size, day .most)) ∙ under i (omega (arith, day .most)))
-    where
-      under : (i : ℕ) → i < 32 → i % 32 ≡ i
-      under i h = omega arith
+  -- the cells of the day's issues in a row
+  pub day-row : (l : List ℕ) → length l ≡ 32 → length (take issues l) ≡ issues
+  day-row l e = length-take-le issues l (omega (arith, day .most))
 
-  pub orderable : {notified before order : List ℕ} → length before ≡ 32 → ((i : ℕ) → i < 32 → getD notified i 0 ≤ 200_000_000) → Started before order → Orderable notified issues order
-  orderable e h s = record {
-    issues-most = day .most;
-    places = s .size ∙ e;
-    notified-most = λ i l. h i (omega (arith, day .most));
-    earlier = arranged e s;
-  }
+  pub rankable : (notified : List ℕ) → length notified ≡ 32 → Rankable (take issues notified) (take issues (zeros 32))
+  rankable notified n = record { room = omega (arith, day-row notified n, day-row (zeros 32) refl) }
+
+  module _ (notified : List ℕ) (n : length notified ≡ 32) where
+    abbrev row : List ℕ
+    row = take issues notified
+
+    -- the ranking, and the cells behind it
+    module _ (ranks rest : List ℕ) (e : take (length row) ranks ≡ ranked (λ i. getD row i 0) (length row)) where
+      long : issues ≤ length ranks
+      long = omega (arith, ap length e, length-ranked (λ i. getD row i 0) (length row), length-take (length row) ranks, day-row notified n)
+
+      pub ranks-there : issues ≤ length (ranks ++ rest)
+      ranks-there = simp length-append (omega (arith, long))
+
+      pub ranks-row : issues ≡ length (take issues (ranks ++ rest))
+      ranks-row = sym (length-take-le issues (ranks ++ rest) ranks-there)
+
+      pub orderable : (before : List ℕ) {order : List ℕ} → length before ≡ 32 → length order ≡ 32 → ((i : ℕ) → i < 32 → getD notified i 0 ≤ 200_000_000)
+          → Orderable row (take issues before) (take issues (ranks ++ rest)) order
+      orderable before b o h =
+          let k : length row ≡ issues = day-row notified n in
+          record {
+            issues-most = omega (arith, k, day .most);
+            earlier = day-row before b ∙ sym k;
+            notified-most = λ i l. rw (getD-take issues notified i 0 (omega arith)) (h i (omega (arith, day .most)));
+            ranks = take-append-le issues ranks rest long ∙ ap (λ (m : ℕ). take m ranks) (sym k) ∙ e;
+            places = o;
+          }
 
   pub stocked : {usable rates : List ℕ} → length usable ≡ 32 → Rates (termsIn issues terms) rates → ((i : ℕ) → i < 32 → getD usable i 0 ≤ 200_000_000) → Stocked issues usable rates
   stocked w r u = record {
@@ -51,22 +73,22 @@ module _ {issues : ℕ} {terms : List ℕ} (day : Issues issues terms) where
     usable-most = λ i k. u i (omega (arith, day .most));
   }
 
-  pub matchable : {notified usable order rates lots : List ℕ} {all amount : ℕ} {key : ℕ → ℕ} → length notified ≡ 32 → length usable ≡ 32 → length lots ≡ 32
-      → Rates (termsIn issues terms) rates → ((i : ℕ) → i < 32 → getD usable i 0 ≤ 200_000_000) → Ordered issues key order
+  pub matchable : {notified usable order rates : List ℕ} {all amount count : ℕ} {key may : ℕ → ℕ} → length notified ≡ 32 → length usable ≡ 32
+      → Rates (termsIn issues terms) rates → ((i : ℕ) → i < 32 → getD usable i 0 ≤ 200_000_000) → Ordered (length (take issues notified)) key may order count
       → ((ts : List Terms) → length ts ≡ issues → Rates ts rates → all ≡ worth ts (take issues usable))
-      → amount ≤ 10_000_000_000_000 → Matchable issues terms notified usable order rates all amount lots
-  matchable n w l r u o g a = record {
+      → amount ≤ 10_000_000_000_000 → Matchable issues count terms notified usable order rates all amount (zeros 32)
+  matchable {notified} n w r u o g a = record {
     notified-there = omega (arith, n, day .most);
     all-is = g (termsIn issues terms) (terms-length issues terms) r;
     issues-least = day .least;
     issues-most = day .most;
     cells = day .cells;
     wide = w;
-    long = o .places;
-    places = l;
+    empty = refl;
     rated = r;
     usable-most = λ i k. u i (omega arith);
-    inside = ordered-inside (day .most) o;
-    once = order-once _ _ _ (o .cells);
+    named =
+        let q = rw (day-row notified n) at o in
+        order-named issues _ _ (q .live) _ (q .places) (day .most) (q .few) (q .cells);
     amount-most = a;
   }

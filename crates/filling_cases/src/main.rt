@@ -116,9 +116,17 @@ fn case(
     }
     let mut rates = [0u64; 32];
     value::rates_of(terms, issues, &mut rates);
+    let mut ranks = [0u64; 32];
+    ranking::rank(&notified[..issues], &mut ranks[..issues]);
     let mut order = [0u64; 32];
-    ordering::start(&mut order[..]);
-    ordering::issue_order(preferential, &notified, &used, issues, &mut order);
+    let count = ordering::issue_order(
+        preferential,
+        &notified[..issues],
+        &used[..issues],
+        &ranks[..issues],
+        &usable,
+        &mut order,
+    );
     let all = value::worth(&usable, &rates, issues);
     let mut lots = [0u64; 32];
     let r = filling::fill_match(
@@ -130,6 +138,7 @@ fn case(
         &notified[..],
         &usable,
         &order,
+        count,
         &rates,
         all,
         Yen(amount),

@@ -218,3 +218,12 @@ keep-cong {A} f g (x ∷ xs) h = rw (h .0) (ap (λ (r : List A). pick (g x) (x �
 pub keep-none : {A : Type 0} (f : A → Bool) (l : List A) → Every (λ x. f x ≡ false) l → keep f l ≡ []
 keep-none f [] h = refl
 keep-none f (x ∷ xs) h = rw (h .0) (keep-none f xs (h .1))
+
+-- what is kept sums to no more
+pub total-keep : {A : Type 0} (f : A → ℕ) (t : A → Bool) (l : List A) → total f (keep t l) ≤ total f l
+total-keep f t [] = omega arith
+total-keep f t (x ∷ xs) =
+    pick-elim (λ l. total f l ≤ total f (x ∷ xs)) (t x) (x ∷ keep t xs) (keep t xs) (omega (arith, total-keep f t xs)) (omega (arith, total-keep f t xs))
+
+pub length-keep : {A : Type 0} (t : A → Bool) (l : List A) → length (keep t l) ≤ length l
+length-keep t l = omega (arith, length-total (keep t l), length-total l, total-keep (λ x. 1) t l)

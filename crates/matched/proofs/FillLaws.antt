@@ -20,8 +20,6 @@ use Rattle.value.specs.Rated.{Rates, Stocked}
 use Rattle.value.proofs.TermLaws.{terms-length}
 use Rattle.filling.specs.Match.{Matchable, FilledAs}
 use Rattle.filling.specs.declared.Filling.{Filling}
-use Rattle.filling.proofs.OnceLaws.{order-once}
-use Rattle.ordering.proofs.OrderLaws.{ordered-inside}
 use Rattle.rows.specs.Rows.{Becomes, Addable}
 use Rattle.rows.proofs.RowLaws.{lent-size, lent-in, lent-out}
 use Rattle.records.proofs.BookingLaws.{where-is}
@@ -90,7 +88,7 @@ module _ {b cells : List ℕ} {j : ℕ} {rates inside allocable used usable₀ :
 
 -- ---- filling
 
-module _ {b cells : List ℕ} {j : ℕ} {rates usable : List ℕ} {all : ℕ} {order lots : List ℕ} (h : Fillable b cells j rates usable all order lots) where
+module _ {b cells : List ℕ} {j : ℕ} {rates usable : List ℕ} {all : ℕ} {order : List ℕ} {count : ℕ} {lots : List ℕ} (h : Fillable b cells j rates usable all order count lots) where
   abbrev n : ℕ
   n = issuesIn b
 
@@ -105,30 +103,28 @@ module _ {b cells : List ℕ} {j : ℕ} {rates usable : List ℕ} {all : ℕ} {o
       let e : length (take (from + n - from) (drop from b)) ≡ n = part-length b from n notices-fit in
       ap (λ (l : List ℕ). take n l) (part-is b from n) ∙ take-all n (block b from n) (omega (arith, length-block b from n notices-fit))
 
-  pub fill-asks : Matchable n (block b termsAt 192) (take (from + n - from) (drop from b)) usable order rates all (getD cells (4 * j + 2) 0) lots
+  pub fill-asks : Matchable n count (block b termsAt 192) (take (from + n - from) (drop from b)) usable order rates all (getD cells (4 * j + 2) 0) lots
   fill-asks = record {
     issues-least = h .sized .some;
     issues-most = h .sized .issues;
     cells = omega (arith, length-block b termsAt 192 (omega (arith, h .sized .cells)), h .sized .issues);
     notified-there = omega (arith, part-length b from n notices-fit);
     wide = h .wide;
-    long = h .long;
-    places = h .places;
+    empty = h .empty;
     rated = h .rated;
     usable-most = h .most;
-    inside = ordered-inside (h .sized .issues) (record { places = h .long; cells = h .arranged .arranged });
-    once = order-once n (h .arranged .key) order (h .arranged .arranged);
+    named = h .named;
     all-is = h .worth-is;
     amount-most = h .amount;
   }
 
   pub fill-is : (k : ℕ) {f : Filling} {lots′ : List ℕ} (preferential : Bool) → preferential ≡ eqb (getD cells (4 * j + 3) 0) 1
-      → FilledAs (filled (getD b 2 0) preferential (bookTerms b) (take n usable) (take n order) (forcedIssue k (bookTerms b) (take n (take (from + n - from) (drop from b)))) (getD cells (4 * j + 2) 0)) f lots′
-      → FilledAs (filledIn b k cells j usable order) f lots′
+      → FilledAs (filled (getD b 2 0) preferential (bookTerms b) (take n usable) (take count order) (forcedIssue k (bookTerms b) (take n (take (from + n - from) (drop from b)))) (getD cells (4 * j + 2) 0)) f lots′
+      → FilledAs (filledIn b k cells j usable order count) f lots′
   unfolding filledIn
   fill-is k {f} {lots′} preferential e p =
       subst (λ (x : Filled). FilledAs x f lots′)
-      (ap₂ (λ (q : Bool) (l : List ℕ). filled (getD b 2 0) q (bookTerms b) (take n usable) (take n order) (forcedIssue k (bookTerms b) l) (getD cells (4 * j + 2) 0)) e notices-are) p
+      (ap₂ (λ (q : Bool) (l : List ℕ). filled (getD b 2 0) q (bookTerms b) (take n usable) (take count order) (forcedIssue k (bookTerms b) l) (getD cells (4 * j + 2) 0)) e notices-are) p
 
 -- ---- lots used
 

@@ -63,7 +63,7 @@ fn run_sound(book: &mut [u64], draw: &[u64], matches: &mut [u64], lines: &mut [u
     if lines.len() < LINE_CELLS {
         return RunAnswer::Refused(Refusal::ShortList);
     }
-    let counts = runs::run::run(book, draw, matches, lines);
+    let counts = runs::whole::run(book, draw, matches, lines);
     RunAnswer::Ran {
         matches: counts.matches as u64,
         lines: counts.lines as u64,

@@ -1,14 +1,17 @@
 -- Laws of the next match of a basket: that the code fills the definition's match. Assumes nothing.
 use mathlib.Core.Path.{_≡_, refl, sym, ap, ap₂, _∙_, subst}
+use mathlib.Core.Logic.{_⊎_, inl, inr}
 use mathlib.Core.Bool.{Bool, true, false}
 use mathlib.Core.List.{List, [], _∷_, _++_}
 use Prim.Native.Nat.{ℕ, _+_, _-_, _*_, _≤_, _<_}
+use native.Mathlib.Nat.{le-refl}
 use native.Mathlib.Omega.{arith}
 use lib.ListN.{length, getD, take}
+use lib.Seq.{getD-take}
 use lib.Dec.{eqb}
 use Rattle.lists.specs.Tests.{pick}
 use Rattle.lists.specs.Tables.{table, row, cell}
-use Rattle.lists.specs.Folds.{Every}
+use Rattle.lists.specs.Folds.{keep, Every}
 use Rattle.lists.specs.Order.{ranked}
 use Rattle.lists.specs.Parts.{block}
 use Rattle.lists.proofs.TableLaws.{getD-table, length-table}
@@ -25,11 +28,14 @@ use Rattle.rule.proofs.RunLaws.{Runnable, Allocated, allocated}
 use Rattle.rule.proofs.RunLots.{used-append, used-cell}
 use Rattle.matching.specs.Plans.{matchAt}
 use Rattle.matching.proofs.CallerLaws.{planned-at}
-use Rattle.ordering.specs.Ordered.{orderKey}
-use Rattle.lists.proofs.OrderLaws.{ranked-alike}
+use Rattle.filling.specs.Match.{Idle}
+use Rattle.filling.proofs.KeptLaws.{filled-kept}
+use Rattle.ordering.specs.Ordered.{Ordered, orderKey}
+use Rattle.ordering.proofs.OrderLaws.{ordered-moved}
+use Rattle.lists.proofs.FoldLaws.{every-map}
+use Rattle.lists.proofs.OrderLaws.{ranked-alike, ranked-below}
 use Rattle.stock.specs.Stock.{termsIn, insideOf, usableOf}
-use Rattle.matched.specs.Filled.{participantsIn, issuesIn, bookTerms, usableIn, OrderedAt, OrderFor, UsableLots, filledIn}
-use Rattle.matched.proofs.OrderLaws.{ordered-moved}
+use Rattle.matched.specs.Filled.{participantsIn, issuesIn, bookTerms, usableIn, keyIn, OrderedAt, OrderFor, UsableLots, filledIn}
 use Rattle.runs.specs.Running.{doneTo, doneIn, doneAt, Start, Running, Tables, Planning}
 use Rattle.runs.proofs.DoneLaws.{nextOf, done-next, Part, part-at, part-every}
 use Rattle.runs.proofs.ReadLaws.{terms-read, notices-read, runs-read, allocable-read, terms-are, low-kept, issues-kept, terms-kept, notices-kept}
@@ -113,7 +119,7 @@ module _ (b draw m₀ l₀ : List ℕ) (S : Start b draw m₀ l₀) (k : ℕ) (b
   -- ---- filled as the definition fills it
 
   module _ (rates allocable : List ℕ) (T : Tables b rates allocable) (c used′ matches lines : List ℕ) (n q : ℕ) (R : Running b m₀ l₀ done c used′ matches lines n q)
-      (usable′ : List ℕ) (all : ℕ) (U : UsableLots c cells j inside allocable used′ usable′ all) (orders order : List ℕ) (sorted : Bool) (O : OrderFor c before cells j all orders order sorted) where
+      (usable′ : List ℕ) (all : ℕ) (U : UsableLots c cells j inside allocable used′ usable′ all) (orders order : List ℕ) (listed : ℕ) (O : OrderFor c before cells j usable′ all orders order listed) where
     used-here : (i : ℕ) → i < m → getD used′ (32 * d + i) 0 ≡ cell (usedTable (view b .given) (doneTo (view b) draw k)) d i + used (doneIn (view b) draw k j) d i
     unfolding doneAt view
     used-here i h =
@@ -158,9 +164,13 @@ module _ (b draw m₀ l₀ : List ℕ) (S : Start b draw m₀ l₀) (k : ℕ) (b
     abbrev o : List ℕ
     o = issueOrder (view b) (usedTable (view b .given) (doneTo (view b) draw k)) pref d
 
-    order-same : OrderedAt c before cells j order → take (issuesIn c) order ≡ o
-    order-same h =
-        ap (λ (x : ℕ). take x order) issues-same ∙ ordered-moved c b before d pref order issues-same (λ i l. notice-same i (omega (arith, issues-same))) h .cells ∙ order-of pref
+    abbrev key : ℕ → ℕ
+    key = keyIn b before d pref
+
+    order-moved : OrderedAt c before cells j (λ i. getD usable′ i 0) order listed → Ordered m key (λ i. getD usable′ i 0) order listed
+    order-moved h =
+        ordered-moved issues-same
+        (λ i l. ap (λ (x : ℕ). orderKey pref x (getD before (32 * d + i) 0)) (notice-same i (omega (arith, issues-same)))) (λ i l. le-refl _) h
 
     notified-same : block c (noticesAt + 32 * d) (issuesIn c) ≡ row (view b .state .notices) d
     unfolding view
@@ -178,19 +188,25 @@ module _ (b draw m₀ l₀ : List ℕ) (S : Start b draw m₀ l₀) (k : ℕ) (b
     abbrev amount : ℕ
     amount = getD cells (4 * j + 2) 0
 
-    -- the order matters only where it is sorted
     abbrev with-order : List ℕ → Filled
     with-order x = filled (getD c 2 0) pref (bookTerms c) (take (issuesIn c) usable′) x (forcedIssue k (bookTerms c) (block c (noticesAt + 32 * d) (issuesIn c))) amount
 
-    order-right : (t : Bool) → sorted ≡ t → with-order (take (issuesIn c) order) ≡ with-order o
-    order-right true e = ap with-order (order-same (O .ordered e))
-    order-right false e = O .idle e .same pref (bookTerms c) (take (issuesIn c) usable′) (take (issuesIn c) order) o _ (U .worth-is)
+    -- an issue that the order leaves out takes nothing in its turn
+    order-kept : (h : Ordered m key (λ i. getD usable′ i 0) order listed) → with-order (keep (h .live) (ranked key m)) ≡ with-order (ranked key m)
+    order-kept h =
+        filled-kept (getD c 2 0) pref (bookTerms c) (take (issuesIn c) usable′) (ranked key m) (h .live) (forcedIssue k (bookTerms c) (block c (noticesAt + 32 * d) (issuesIn c))) amount
+        (every-map (λ i. i < m) (λ i. h .live i ≡ false → getD (take (issuesIn c) usable′) i 0 ≡ 0)
+        (λ i l e. getD-take (issuesIn c) usable′ i 0 (omega (arith, issues-same)) ∙ h .rest i l e) (ranked key m) (ranked-below key m))
 
-    pub next-filled : filledIn c k cells j usable′ order ≡ next .filled
+    order-right : OrderedAt c before cells j (λ i. getD usable′ i 0) order listed ⊎ Idle (getD c 2 0) all amount → with-order (take listed order) ≡ with-order o
+    order-right (inl h) = ap with-order (order-moved h .cells) ∙ order-kept (order-moved h) ∙ ap with-order (order-of pref)
+    order-right (inr h) = h .same pref (bookTerms c) (take (issuesIn c) usable′) (take listed order) o _ (U .worth-is)
+
+    pub next-filled : filledIn c k cells j usable′ order listed ≡ next .filled
     unfolding filledIn nextOf allocate matchAt
     next-filled =
         let u : List ℕ = usable (view b) k (usedTable (view b .given) (doneTo (view b) draw k)) (doneIn (view b) draw k j) d in
-        order-right sorted refl
+        order-right (O .fits)
         ∙ ap₂ (λ (r : ℕ) (x : List ℕ). filled r pref (bookTerms c) x o (forcedIssue k (bookTerms c) (block c (noticesAt + 32 * d) (issuesIn c))) amount) runs-same (U .row ∙ usable-same)
         ∙ ap (λ (f : List ℕ). filled (view b .state .runs) pref (bookTerms c) u o (forcedIssue k (bookTerms c) f) amount) notified-same
         ∙ ap (λ (ts : List Terms). filled (view b .state .runs) pref ts u o (forcedIssue k ts (row (view b .state .notices) d)) amount) terms-same

@@ -36,7 +36,6 @@ use Rattle.runs.specs.Running.{doneTo, BookedTo, Start, Running, Done, B
 use Rattle.runs.specs.Ran.{BasketsAsk, BasketsDone, Cleared, Ran}
 use Rattle.rows.proofs.RowLaws.{lent-size, lent-in, lent-out}
 use Rattle.records.proofs.BookingLaws.{where-is}
-use Rattle.ordering.specs.Ordered.{Started}
 use Rattle.matched.proofs.OrderLaws.{orders-begin}
 use Rattle.runs.proofs.DoneLaws.{done-none, done-all}
 use Rattle.runs.proofs.BookedLaws.{booked-none}
@@ -66,12 +65,12 @@ module _ (b draw rates allocable matches₀ lines₀ : List ℕ) (h : BasketsAsk
     line-count = refl;
   }
 
-  pub baskets-none : {orders : List ℕ} → Started (zeros 384) orders → Baskets b draw matches₀ lines₀ b orders (zeros 384) matches₀ lines₀ 0 0 0
-  baskets-none {orders} w = record {
+  pub baskets-none : Baskets b draw matches₀ lines₀ b (table 384 (λ i. 32)) (zeros 384) matches₀ lines₀ 0 0 0
+  baskets-none = record {
     here = omega arith;
     done = record {
       running = subst (λ (x : List Allocation). Running b matches₀ lines₀ x b (zeros 384) matches₀ lines₀ 0 0) (sym (done-none (view b) draw)) nothing-done;
-      kept = orders-begin (h .start .book .sizes .most) (w .cells) (w .size ∙ length-zeros 384);
+      kept = orders-begin b;
     };
   }
 

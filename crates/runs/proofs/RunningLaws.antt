@@ -1,19 +1,21 @@
 -- Laws of a run in progress: what the next match asks, and what it leaves. Assumes nothing.
 use mathlib.Core.Path.{_≡_, refl, sym, ap, ap₂, _∙_, subst}
 use mathlib.Core.Logic.{_≢_}
-use mathlib.Core.Bool.{Bool, true, _&&_}
+use mathlib.Core.Bool.{Bool, true, false, _&&_}
 use mathlib.Core.List.{List, [], _∷_, _++_}
 use Prim.Native.Nat.{ℕ, _+_, _-_, _*_, _≤_, _<_}
 use native.Mathlib.Decide.{ℕ-discrete}
 use native.Mathlib.Omega.{arith}
 use lib.ListN.{length, getD, take, length-append}
-use lib.Seq.{getD-set-same}
+use lib.Seq.{getD-set-same, getD-take}
 use lib.Dec.{eqb}
 use borrow.Author.Tests.{eq-eqb, ne-eqb}
 use Rattle.lists.specs.Tests.{pick}
+use Rattle.lists.specs.Tables.{zeros}
 use Rattle.lists.specs.Folds.{joined}
 use Rattle.lists.specs.Parts.{over}
 use Rattle.lists.proofs.TestLaws.{go}
+use Rattle.lists.proofs.TableLaws.{getD-table}
 use Rattle.lists.proofs.PartLaws.{length-over}
 use Rattle.rule.specs.Value.{Terms}
 use Rattle.rule.specs.Filling.{Filled, allLots}
@@ -29,12 +31,13 @@ use Rattle.filling.specs.Match.{FilledAs}
 use Rattle.filling.specs.declared.Filling.{Filling}
 use Rattle.filling.proofs.MatchLaws.{allocable-most}
 use Rattle.filling.proofs.RowLaws.{length-padded}
-use Rattle.ordering.specs.Ordered.{Arranged, Ordered}
-use Rattle.stock.specs.Stock.{termsIn, allocableIn}
+use Rattle.ordering.specs.Ordered.{orderKey}
+use Rattle.ordering.proofs.OrderLaws.{ordered-moved}
+use Rattle.stock.specs.Stock.{termsIn, allocableIn, usableOf}
 use Rattle.records.specs.Listed.{entryOf, linesFor}
 use Rattle.records.specs.Booked.{YenMoved, LotsMoved}
-use Rattle.matched.specs.Filled.{participantsIn, issuesIn, bookTerms, Orders, keyIn, OrderedAt, OrderAsked, OrderFor, UsableAsked, UsableLots, Fillable, filledIn, lotsWith, Writable, Wrote}
-use Rattle.matched.proofs.OrderLaws.{ordered-moved}
+use Rattle.matched.specs.Filled.{participantsIn, issuesIn, bookTerms, Same, notifiedIn, Orders, OrderedAt, OrderAsked, OrderFor, UsableAsked, UsableLots, Fillable, filledIn, lotsWith, Writable, Wrote}
+use Rattle.matched.proofs.OrderLaws.{orders-moved}
 use Rattle.runs.specs.Running.{doneAt, Start, Running, Tables, Planning}
 use Rattle.runs.proofs.DoneLaws.{nextOf, Part, part-total, part-length}
 use Rattle.runs.proofs.BookedLaws.{booked-more, more-yes, more-no}
@@ -42,6 +45,19 @@ use Rattle.runs.proofs.ReadLaws.{notices-read, allocable-read, sized-ke
 use Rattle.runs.proofs.NextLaws.{runnable, next, next-is, next-part, next-allocated, next-deliverer, next-receiver, next-amount, deliverer-of-day, receiver-of-day, next-filled}
 use Rattle.records.proofs.ListingLaws.{cells-for}
 use Rattle.runs.proofs.ListedLaws.{lines-append, lines-more, entry-is, front-is, all-lots, all-size, lines-are, entries-more, rows-more}
+
+-- what may be used of participant d's issues
+abbrev pub mayUse : List ℕ → List ℕ → List ℕ → ℕ → ℕ → ℕ
+mayUse inside allocable used d i = usableOf (getD inside i 0) (getD allocable (32 * d + i) 0) (getD used (32 * d + i) 0)
+
+-- the more is used, the less may be
+usable-falls : (inside allocable used used′ : ℕ) → used ≤ used′ → usableOf inside allocable used′ ≤ usableOf inside allocable used
+unfolding usableOf
+usable-falls inside allocable used used′ h = cases (eqb inside 1)
+  where
+    cases : (t : Bool) → pick t (allocable - used′) 0 ≤ pick t (allocable - used) 0
+    cases true = omega arith
+    cases false = omega arith
 
 module _ (b draw m₀ l₀ : List ℕ) (S : Start b draw m₀ l₀) (k : ℕ) (basket : k < 7) (cells : List ℕ) (count : ℕ) (inside before : List ℕ)
     (P : Planning b draw k cells count inside before) (j : ℕ) (l : j < count) (rates allocable : List ℕ) (T : Tables b rates allocable) where
@@ -53,6 +69,9 @@ module _ (b draw m₀ l₀ : List ℕ) (S : Start b draw m₀ l₀) (k : ℕ) (b
 
   abbrev r : ℕ
   r = getD cells (4 * j + 1) 0
+
+  abbrev pref : Bool
+  pref = eqb (getD cells (4 * j + 3) 0) 1
 
   abbrev done : List Allocation
   done = doneAt (view b) draw k j
@@ -179,8 +198,11 @@ module _ (b draw m₀ l₀ : List ℕ) (S : Start b draw m₀ l₀) (k : ℕ) (b
     issues-same : issuesIn c ≡ m
     issues-same = issues-kept b (S .book) done c (R .booked)
 
-    notice-same : (i : ℕ) → i < m → getD c (noticesAt + 32 * d + i) 0 ≡ getD b (noticesAt + 32 * d + i) 0
-    notice-same i x = notices-kept b (S .book) done c (R .booked) (noticesAt + 32 * d + i) (omega arith) (omega (arith, deliverer, S .book .sizes .few, S .book .sizes .most))
+    notice-same : (p i : ℕ) → p < 12 → i < m → notifiedIn c p i ≡ notifiedIn b p i
+    notice-same p i y x = notices-kept b (S .book) done c (R .booked) (noticesAt + 32 * p + i) (omega arith) (omega (arith, S .book .sizes .most))
+
+    deliverer-few : d < 12
+    deliverer-few = omega (arith, deliverer, S .book .sizes .few)
 
     terms-rated : Rates (bookTerms c) rates
     terms-rated = subst (λ (ts : List Terms). Rates ts rates) (sym (terms-kept b (S .book) done c (R .booked))) (T .rated)
@@ -204,29 +226,38 @@ module _ (b draw m₀ l₀ : List ℕ) (S : Start b draw m₀ l₀) (k : ℕ) (b
       wide = e;
     }
 
-    pub order-asks : (sorted : Bool) (orders order : List ℕ) → Orders m orders → length order ≡ 32 → Arranged m order → (sorted ≡ true → 0 < j → OrderedAt c before cells (j - 1) order)
-        → OrderAsked c before cells j sorted orders order
-    order-asks sorted orders order O e A last = record {
-      place = omega (arith, P .few);
-      amount = amount-most;
-      loadable = record {
-        sized = sized-kept b (S .book) done c (R .booked);
-        deliverer = omega (arith, deliverer, S .book .sizes .few);
-        notified-most = λ i x. omega (arith, notice-same i (omega (arith, issues-same)), lots-notified i (omega (arith, issues-same)));
-        earlier = P .earlier;
-        kept = subst (λ (q : ℕ). Orders q orders) (sym issues-same) O;
-        long = e;
-      };
-      arranged = subst (λ (q : ℕ). Arranged q order) (sym issues-same) A;
-      last = last;
-    }
+    -- the deliverers' rankings are those of the book as it was
+    pub orders-kept : (orders : List ℕ) → Orders c orders → Orders b orders
+    orders-kept orders O = orders-moved c b issues-same (λ p i y x. notice-same p i y (omega (arith, issues-same))) O
 
-    -- an order of the book as it is is one of the book as it was
-    pub order-kept : (preferential : Bool) (order : List ℕ) → Ordered (issuesIn c) (keyIn c before d preferential) order → Ordered m (keyIn b before d preferential) order
-    order-kept preferential order o = ordered-moved c b before d preferential order issues-same (λ i x. notice-same i (omega (arith, issues-same))) o
+    module _ (usable′ : List ℕ) (all : ℕ) (U : UsableLots c cells j inside allocable used′ usable′ all) where
+      usable-at : (i : ℕ) → i < issuesIn c → getD usable′ i 0 ≡ mayUse inside allocable used′ d i
+      usable-at i x = sym (getD-take (issuesIn c) usable′ i 0 x) ∙ ap (λ (v : List ℕ). getD v i 0) (U .row) ∙ getD-table (issuesIn c) (mayUse inside allocable used′ d) i 0 x
 
-    module _ (usable′ : List ℕ) (all : ℕ) (U : UsableLots c cells j inside allocable used′ usable′ all) (orders order : List ℕ) (sorted : Bool) (O : OrderFor c before cells j all orders order sorted) where
-      pub fill-asks : (lots : List ℕ) → length lots ≡ 32 → Fillable c cells j rates usable′ all order lots
+      -- an order of the book as it was is one of the book as it is
+      order-now : (order : List ℕ) (listed : ℕ) → OrderedAt b before cells j (mayUse inside allocable used′ d) order listed → OrderedAt c before cells j (λ i. getD usable′ i 0) order listed
+      order-now order listed o =
+          ordered-moved (sym issues-same) (λ i x. ap (λ (v : ℕ). orderKey pref v (getD before (32 * d + i) 0)) (sym (notice-same d i deliverer-few x)))
+          (λ i x. omega (arith, usable-at i (omega (arith, issues-same)))) o
+
+      pub order-asks : (listed : ℕ) (orders order : List ℕ) → Orders b orders → length order ≡ 32 → (0 < listed → Same cells j → OrderedAt b before cells j (mayUse inside allocable used′ d) order listed)
+          → OrderAsked c before cells j usable′ listed orders order
+      order-asks listed orders order O e last = record {
+        place = omega (arith, P .few);
+        amount = amount-most;
+        loadable = record {
+          sized = sized-kept b (S .book) done c (R .booked);
+          deliverer = deliverer-few;
+          notified-most = λ i x. omega (arith, notice-same d i deliverer-few (omega (arith, issues-same)), lots-notified i (omega (arith, issues-same)));
+          earlier = P .earlier;
+          kept = orders-moved b c (sym issues-same) (λ p i y x. sym (notice-same p i y x)) O;
+          long = e;
+        };
+        last = λ x s. order-now order listed (last x s);
+      }
+
+    module _ (usable′ : List ℕ) (all : ℕ) (U : UsableLots c cells j inside allocable used′ usable′ all) (orders order : List ℕ) (listed : ℕ) (O : OrderFor c before cells j usable′ all orders order listed) where
+      pub fill-asks : (lots : List ℕ) → lots ≡ zeros 32 → Fillable c cells j rates usable′ all order listed lots
       fill-asks lots e = record {
         sized = sized-kept b (S .book) done c (R .booked);
         place = omega (arith, P .few);
@@ -236,14 +267,13 @@ module _ (b draw m₀ l₀ : List ℕ) (S : Start b draw m₀ l₀) (k : ℕ) (b
         wide = U .wide;
         most = U .most;
         worth-is = U .worth-is;
-        long = O .long;
-        arranged = O .arranged;
-        places = e;
+        named = O .named;
+        empty = e;
       }
 
-      module _ (f : Filling) (lots : List ℕ) (A : FilledAs (filledIn c k cells j usable′ order) f lots) where
+      module _ (f : Filling) (lots : List ℕ) (A : FilledAs (filledIn c k cells j usable′ order listed) f lots) where
         F : FilledAs (a .filled) f lots
-        F = subst (λ (x : Filled). FilledAs x f lots) (next-filled b draw m₀ l₀ S k basket cells count inside before P j l rates allocable T c used′ matches lines n q R usable′ all U orders order sorted O) A
+        F = subst (λ (x : Filled). FilledAs x f lots) (next-filled b draw m₀ l₀ S k basket cells count inside before P j l rates allocable T c used′ matches lines n q R usable′ all U orders order listed O) A
 
         pub lots-wide : length lots ≡ 32
         lots-wide = ap length (F .lots-are) ∙ length-padded (a .filled .lots) (omega (arith, issues, S .book .sizes .most))
@@ -315,6 +345,20 @@ module _ (b draw m₀ l₀ : List ℕ) (S : Start b draw m₀ l₀) (k : ℕ) (b
                     (W .gone .more i (omega (arith, row-size)) ∙ ap₂ (λ (o w : ℕ). o + w) (used-at i v) (ap (λ (v : List ℕ). getD v i 0) row-is) ∙ sym (used-more i))
                 cases (no e) =
                     W .gone .kept (32 * p + i) (λ o w s. e (omega (arith, row-size, S .book .sizes .most))) ∙ R .gone p i x v ∙ sym (used-else p i e)
+
+            -- less may be used than before, so that the order is still right
+            less-usable : (i : ℕ) → i < m → mayUse inside allocable used″ d i ≤ getD usable′ i 0
+            less-usable i x =
+                omega (
+                  arith,
+                  usable-at usable′ all U i (omega (arith, issues-same)),
+                  usable-falls (getD inside i 0) (getD allocable (32 * d + i) 0) (getD used′ (32 * d + i) 0) (getD used″ (32 * d + i) 0) (omega (arith, W .gone .more i (omega (arith, row-size)))),
+                )
+
+            pub order-next : 0 < listed → OrderedAt b before cells j (mayUse inside allocable used″ d) order listed
+            order-next x =
+                ordered-moved issues-same (λ i v. ap (λ (w : ℕ). orderKey pref w (getD before (32 * d + i) 0)) (notice-same d i deliverer-few (omega (arith, issues-same))))
+                (λ i v. less-usable i (omega (arith, issues-same))) (O .listed x)
 
             pub running-more : Running b m₀ l₀ (doneAt (view b) draw k (j + 1)) c′ used″ matches′ lines′ n′ q′
             running-more =

@@ -82,10 +82,10 @@ pub record Running (b₀ m₀ l₀ : List ℕ) (done : List Allocation) (b used�
   pub match-count : m ≡ length done
   pub line-count : l ≡ length (lineList done)
 
--- and the orders of issues that the deliverers had last
+-- and the deliverers' issues by notified lots
 pub record Done (b₀ m₀ l₀ : List ℕ) (done : List Allocation) (b orders used′ matches lines : List ℕ) (m l : ℕ) : Type 0 where
   pub running : Running b₀ m₀ l₀ done b used′ matches lines m l
-  pub kept : Orders (issuesIn b₀) orders
+  pub kept : Orders b₀ orders
 
 -- ---- what a basket's step and its loop ask
 
@@ -99,7 +99,7 @@ pub record Begun (b₀ draw m₀ l₀ : List ℕ) (k : ℕ) (b rates allocable o
   pub basket : k < 7
   pub tables : Tables b₀ rates allocable
   pub running : Running b₀ m₀ l₀ (doneTo (view b₀) draw k) b used′ matches lines m l
-  pub kept : Orders (issuesIn b₀) orders
+  pub kept : Orders b₀ orders
 
 -- some book and lists from which the run began
 pub record BasketAsks (k : ℕ) (b draw rates allocable orders used′ matches lines : List ℕ) (m l : ℕ) : Type 0 where

@@ -26,8 +26,7 @@ fn allocate(
 {
     let issues = book[layout::ISSUES] as usize;
     let mut order = [0u64; 32];
-    ordering::start(&mut order[..]);
-    let mut sorted = false;
+    let mut listed = 0;
     let mut usable = [0u64; 32];
     let mut done = counts;
     for j in 0..count {
@@ -42,13 +41,14 @@ fn allocate(
             &*used,
             &mut usable,
         );
-        sorted = matched::order_for(
+        listed = matched::order_for(
             &*book,
             before,
             cells,
             j,
+            &usable,
             all,
-            sorted,
+            listed,
             &mut *orders,
             &mut order,
         );
@@ -61,6 +61,7 @@ fn allocate(
             &usable,
             all,
             &order,
+            listed,
             &mut lots,
         );
         done = matched::write_next(

@@ -1,3 +1,3 @@
 // A run on a sound book, basket by basket.
 mod basket;
-pub mod run;
+pub mod whole;

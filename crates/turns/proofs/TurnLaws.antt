@@ -2,19 +2,20 @@
 -- to say that two issues of one rate have one value. Assumes nothing.
 use mathlib.Core.Path.{_≡_, refl, sym, ap, _∙_}
 use Prim.Native.Nat.{ℕ, _+_, _-_, _*_, _/_, _%_, _≤_, _<_, min, max}
+use mathlib.Core.Bool.{true}
 use lib.Dec.{eqb}
 use borrow.Author.Tests.{eq-eqb, ne-eqb}
-use Rattle.lists.proofs.TestLaws.{pick-yes, pick-no}
+use Rattle.lists.proofs.TestLaws.{both-ways, pick-yes, pick-no}
 use native.Mathlib.Nat.{le-refl}
 use native.Mathlib.Decide.{decLe}
 use native.Mathlib.Omega.{arith}
 use Rattle.rule.specs.Value.{Terms, value, fewest, most}
 use Rattle.rule.specs.Filling.{unit, target}
-use Rattle.rule.proofs.ValueLaws.{value-zero, value-lot, value-strict, value-mono, fewest-reaches, fewest-least, most-keeps, most-greatest}
-use Rattle.value.specs.Rate.{rate, Valuable, Payable}
+use Rattle.rule.proofs.ValueLaws.{value-zero, value-lot, fewest-reaches, fewest-least, most-keeps, most-greatest}
+use Rattle.value.specs.Rate.{Valuable, Payable}
 use Rattle.value.proofs.RateLaws.{rate-least, value-closed, value-most}
 use Rattle.value.specs.Rated.{Rated}
-use Rattle.turns.specs.Turns.{besides, Part, Addable, Short, Raising, Rounding, Turnable, Turned, upTo, wholeUnits, boundOf, nextOf}
+use Rattle.turns.specs.Turns.{besides, Part, Addable, Short, Raising, Rounding, Turnable, Turned, Valued, Took, upTo, wholeUnits, boundOf, nextOf}
 use Rattle.turns.specs.declared.Turn.{Turn}
 
 -- what a call of `fewest` or `most` ensures for every price above 0, and one of `value` for every terms of the rate
@@ -40,6 +41,9 @@ part-small {lots = lots} a e =
 pub besides-none : (t : Terms) {had : ℕ} (reached : ℕ) → had ≡ 0 → reached ≡ besides t had reached
 besides-none t reached e = omega (arith, value-zero t, ap (value t) e)
 
+pub alone : (w reached : ℕ) → Ensured w (λ t. besides t 0 reached) reached
+alone w reached t q = besides-none t reached refl
+
 module _ {w had reached : ℕ} (p : Part w had reached) where
   pub had-valuable : Valuable w had
   had-valuable = record {
@@ -51,8 +55,13 @@ module _ {w had reached : ℕ} (p : Part w had reached) where
   part-within r = omega (arith, one-value r (p .rated) had, p .within)
 
   -- nothing is taken
-  pub idle : {t : Terms} {n : ℕ} {r : Turn} → Rated t w → n ≡ had → r .lots .0 ≡ had → r .reached .0 ≡ reached → Turned t (besides t had reached) n r
-  idle {t} {n} q e l v = record { lots = l ∙ sym e; worth = omega (arith, part-within q, ap (value t) e) }
+  pub idle : {t : Terms} {n : ℕ} {r : Turn} → Rated t w → n ≡ had → r .lots .0 ≡ had → r .reached .0 ≡ reached → Took t had reached n r
+  idle {t} {n} q e l v =
+      record { turned = record { lots = l ∙ sym e; worth = omega (arith, part-within q, ap (value t) e) }; still = λ none. e }
+
+-- lots were taken
+taking : {t : Terms} {had reached n : ℕ} {r : Turn} → r .taken ≡ true → Turned t (besides t had reached) n r → Took t had reached n r
+taking {r = r} some a = record { turned = a; still = λ none. both-ways (r .taken) some none }
 
 -- ---- all up to a bound, or the fewest that reach the amount
 
@@ -74,15 +83,15 @@ module _ {w had bound reached amount : ℕ} (p : Raising w had bound reached amo
     }
 
     -- all of it stays below the amount
-    pub up-all : {t : Terms} {r : Turn} → Rated t w → Turned t rest bound r → r .reached .0 < amount → Turned t (besides t had reached) (upTo t bound had reached amount) r
+    pub up-all : {t : Terms} {r : Turn} → Rated t w → Valued w rest bound r → r .reached .0 < amount → Took t had reached (upTo t bound had reached amount) r
     unfolding upTo
     up-all {t} {r} q a low = go (decLe (fewest t (amount - besides t had reached)) bound)
       where
-        go : Dec (fewest t (amount - besides t had reached) ≤ bound) → Turned t (besides t had reached) (min bound (max had (fewest t (amount - besides t had reached)))) r
-        go (yes h) = absurd (omega (arith, fewest-reaches t (some-price q) (amount - besides t had reached) h, o t q, a .worth))
+        go : Dec (fewest t (amount - besides t had reached) ≤ bound) → Took t had reached (min bound (max had (fewest t (amount - besides t had reached)))) r
+        go (yes h) = absurd (omega (arith, fewest-reaches t (some-price q) (amount - besides t had reached) h, o t q, a .turned t q .worth))
         go (no h) =
             let e : min bound (max had (fewest t (amount - besides t had reached))) ≡ bound = omega arith in
-            rw (e, ← o t q) a
+            taking (a .taken) (rw (e, ← o t q) (a .turned t q))
 
     pub payable : Payable w (amount - rest)
     payable = record { rate-least = rate-low (p .part .rated); rate-most = p .part .rated .most; yen-most = omega (arith, p .amount-most) }
@@ -108,11 +117,11 @@ module _ {w had bound reached amount : ℕ} (p : Raising w had bound reached amo
         others-most = omega (arith, rest-below, p .amount-most);
       }
 
-      pub up-few : {n : ℕ} {r : Turn} → n ≡ fewest t (amount - rest) → Turned t rest n r → Turned t (besides t had reached) (upTo t bound had reached amount) r
+      pub up-few : {n : ℕ} {r : Turn} → n ≡ fewest t (amount - rest) → Valued w rest n r → Took t had reached (upTo t bound had reached amount) r
       unfolding upTo
       up-few {n} e a =
           let d : min bound (max had (fewest t (amount - rest))) ≡ n = omega (arith, few, more q) in
-          rw (← o t q, d) a
+          taking (a .taken) (rw (← o t q, d) (a .turned t q))
 
 -- all that the match may have is taken, and does not reach
 pub short-raising : {w had reached amount : ℕ} → Short w had reached amount → Raising w had had reached amount
@@ -136,7 +145,7 @@ module _ {w had usable reached goal : ℕ} (p : Rounding w had usable reached go
   units-none q h = omega (arith, had-keeps q, p .bounded)
 
   module _ {rest : ℕ} (o : Ensured w (λ t. besides t had reached) rest) where
-    pub rest-kept : rest ≤ goal
+    rest-kept : rest ≤ goal
     rest-kept = omega (arith, o (p .part .terms) (p .part .rated), p .kept)
 
     addable : {n : ℕ} → n ≤ 200_100_000 → Addable w rest n
@@ -147,8 +156,8 @@ module _ {w had usable reached goal : ℕ} (p : Rounding w had usable reached go
       others-most = omega (arith, rest-kept, p .goal-most);
     }
 
-    pub whole-addable : Addable w rest (usable / unit * unit)
-    whole-addable = addable (omega (arith, p .usable-most))
+    pub whole-addable : {n : ℕ} → n ≡ usable / unit * unit → Addable w rest n
+    whole-addable e = addable (omega (arith, p .usable-most))
 
     pub room-payable : Payable w (goal - rest)
     room-payable = record { rate-least = rate-low (p .part .rated); rate-most = p .part .rated .most; yen-most = omega (arith, p .goal-most) }
@@ -165,12 +174,11 @@ module _ {w had usable reached goal : ℕ} (p : Rounding w had usable reached go
           go (yes k) = absurd (omega (arith, most-keeps t (some-price q) (goal - rest) k, rest-kept))
           go (no k) = omega arith
 
-      pub units-all : {r : Turn} → Turned t rest (usable / unit * unit) r → r .reached .0 ≤ goal → Turned t (besides t had reached) (wholeUnits t usable had reached goal) r
+      pub units-all : {n : ℕ} {r : Turn} → n ≡ usable / unit * unit → Valued w rest n r → r .reached .0 ≤ goal → Took t had reached (wholeUnits t usable had reached goal) r
       unfolding wholeUnits
-      units-all a low =
-          let d : min (usable / unit) (most t (goal - rest) / unit) * unit ≡ usable / unit * unit =
-          omega (arith, within {n = usable / unit * unit} (omega (arith, a .worth))) in
-          rw (← o t q, d) a
+      units-all {n} e a low =
+          let d : min (usable / unit) (most t (goal - rest) / unit) * unit ≡ n = omega (arith, within {n = n} (omega (arith, a .turned t q .worth))) in
+          taking (a .taken) (rw (← o t q, d) (a .turned t q))
 
       -- not one more unit stays within it
       pub units-one : goal < rest + value t (had + unit) → wholeUnits t usable had reached goal ≡ had
@@ -181,52 +189,47 @@ module _ {w had usable reached goal : ℕ} (p : Rounding w had usable reached go
         pub most-addable : Addable w rest (n / unit * unit)
         most-addable = addable (omega (arith, past {n = usable / unit * unit} some, p .usable-most))
 
-        pub units-most : {r : Turn} → Turned t rest (n / unit * unit) r → Turned t (besides t had reached) (wholeUnits t usable had reached goal) r
+        pub units-most : {r : Turn} → Valued w rest (n / unit * unit) r → Took t had reached (wholeUnits t usable had reached goal) r
         unfolding wholeUnits
         units-most a =
             let d : min (usable / unit) (most t (goal - rest) / unit) * unit ≡ n / unit * unit =
             omega (arith, past {n = usable / unit * unit} some) in
-            rw (← o t q, d) a
+            taking (a .taken) (rw (← o t q, d) (a .turned t q))
 
 -- ---- a pass
 
-pub not-first : {pass : ℕ} → pass ≡ 2 → pass ≡ 1 → ⊥
-not-first e f = omega arith
+pub not-first : _≡_ {A = ℕ} 2 1 → ⊥
+not-first e = omega arith
 
 module _ {pass : ℕ} (usable had : ℕ) where
-  pub bound-first : pass ≡ 1 → boundOf pass usable had ≡ usable / unit * unit
-  unfolding boundOf
-  bound-first e = pick-yes (eqb pass 1) _ _ (eq-eqb pass 1 e)
-
-  -- the whole units are all that the match has
-  pub bound-second : pass ≡ 2 → had / unit * unit ≡ had → boundOf pass usable had ≡ had + usable % unit
-  unfolding boundOf
-  bound-second e w = rw e (ap (λ (n : ℕ). n + usable % unit) w)
-
-  pub bound-third : (pass ≡ 1 → ⊥) → (pass ≡ 2 → ⊥) → boundOf pass usable had ≡ usable
+  pub bound-third : (pass ≡ 1 → ⊥) → (pass ≡ 2 → ⊥) → usable ≡ boundOf pass usable had
   unfolding boundOf
   bound-third n m = rw (ne-eqb pass 1 n, ne-eqb pass 2 m)
 
   module _ (t : Terms) (reached amount : ℕ) where
-    pub next-first : pass ≡ 1 → nextOf pass t usable had reached amount ≡ wholeUnits t usable had reached (target amount)
+    next-first : pass ≡ 1 → nextOf pass t usable had reached amount ≡ wholeUnits t usable had reached (target amount)
     unfolding nextOf
     next-first e = pick-yes (eqb pass 1) _ _ (eq-eqb pass 1 e)
 
-    pub next-other : (pass ≡ 1 → ⊥) → nextOf pass t usable had reached amount ≡ upTo t (boundOf pass usable had) had reached amount
+    next-other : (pass ≡ 1 → ⊥) → nextOf pass t usable had reached amount ≡ upTo t (boundOf pass usable had) had reached amount
     unfolding nextOf
     next-other n = pick-no (eqb pass 1) _ _ (ne-eqb pass 1 n)
 
 module _ {pass w had usable reached amount : ℕ} (p : Turnable pass w had usable reached amount) where
-  pub rounding : pass ≡ 1 → Rounding w had usable reached (target amount)
+  pub rounding : pass ≡ 1 → Rounding w 0 usable reached (target amount)
   unfolding target
   rounding e = record {
-    part = p .part;
-    bounded = rw (bound-first usable had e) at (p .bounded);
-    whole = p .first e .whole;
+    part = rw (p .first e .none) at (p .part);
+    bounded = omega arith;
+    whole = omega arith;
     usable-most = p .usable-most;
     kept = p .first e .kept;
     goal-most = omega (arith, p .amount-most);
   }
+
+  pub firstly : {t : Terms} {r : Turn} → pass ≡ 1 → Took t 0 reached (wholeUnits t usable 0 reached (target amount)) r
+      → Took t had reached (nextOf pass t usable had reached amount) r
+  firstly {t} e a = rw (next-first usable had t reached amount e, p .first e .none) a
 
   pub raising : {bound : ℕ} → bound ≡ boundOf pass usable had → bound ≤ 10_000_000_000 → Raising w had bound reached amount
   raising e h = record {
@@ -237,15 +240,29 @@ module _ {pass w had usable reached amount : ℕ} (p : Turnable pass w had usabl
     amount-most = p .amount-most;
   }
 
-  pub had-most : had ≤ 2_000_000_000
-  had-most = omega (arith, value-lot (p .part .terms) (p .part .rated .priced) had, p .part .within, p .part .reached-most)
+  -- the match then has what a turn up to some bound gives, where that is all that the pass may have
+  pub later : {t : Terms} {bound : ℕ} {r : Turn} → (pass ≡ 1 → ⊥) → bound ≡ boundOf pass usable had → Took t had reached (upTo t bound had reached amount) r
+      → Took t had reached (nextOf pass t usable had reached amount) r
+  later {t} n e a = rw (next-other usable had t reached amount n, ← e) a
 
-  pub second-bound : pass ≡ 2 → boundOf pass usable had ≡ had + usable % unit
-  second-bound e = bound-second usable had e (p .second e)
+-- ---- the second pass
 
-  -- there is no remainder
-  pub second-none : {t : Terms} {r : Turn} → pass ≡ 2 → usable % unit ≡ 0 → Rated t w → r .lots .0 ≡ had → r .reached .0 ≡ reached
-      → Turned t (besides t had reached) (nextOf pass t usable had reached amount) r
-  second-none {t} e z q l v =
-      let n : boundOf pass usable had ≡ had = second-bound e ∙ omega arith in
-      idle (p .part) q (next-other usable had t reached amount (not-first e) ∙ (rw n (up-none (raising (sym n) (omega (arith, had-most))) t (le-refl had)))) l v
+module _ {w had usable reached amount : ℕ} (p : Turnable 2 w had usable reached amount) where
+  second-bound : boundOf 2 usable had ≡ had + usable % unit
+  unfolding boundOf
+  second-bound = ap (λ (n : ℕ). n + usable % unit) (p .second refl)
+
+  -- no further unit is left
+  pub bound-all : usable - had < unit → usable ≡ boundOf 2 usable had
+  bound-all h = omega (arith, second-bound, p .second refl, p .within)
+
+  -- beside the whole units of what may be used there is its remainder
+  pub bound-remainder : {whole : ℕ} → whole ≡ usable / unit * unit → had + (usable - whole) ≡ boundOf 2 usable had
+  bound-remainder e = omega (arith, second-bound)
+
+  -- which is none
+  pub remainder-none : {t : Terms} {whole : ℕ} {r : Turn} → whole ≡ usable / unit * unit → usable - whole ≡ 0 → Rated t w → r .lots .0 ≡ had → r .reached .0 ≡ reached
+      → Took t had reached (nextOf 2 t usable had reached amount) r
+  remainder-none {t} e z q l v =
+      let b : had ≡ boundOf 2 usable had = omega (arith, bound-remainder e) in
+      later p not-first b (idle (p .part) q (up-none (raising p b (omega (arith, p .within, p .usable-most))) t (le-refl had)) l v)

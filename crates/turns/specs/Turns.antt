@@ -1,5 +1,6 @@
 -- An issue's turn in a match, by numbers: the rule's steps with what the match is worth carried along. Assumes nothing.
 use mathlib.Core.Path.{_≡_}
+use mathlib.Core.Bool.{true, false}
 use mathlib.Core.List.{List, _++_}
 use Prim.Native.Nat.{ℕ, _+_, _-_, _*_, _/_, _%_, _≤_, _<_, min, max}
 use lib.ListN.{length, getD, set}
@@ -34,6 +35,10 @@ nextOf pass t usable had reached amount =
     pick (eqb pass 1) (wholeUnits t usable had reached (target amount)) (upTo t (boundOf pass usable had) had reached amount)
 
 -- ---- what a turn asks, and what it gives
+
+-- no more lots than a notice may have
+pub record Few (lots : ℕ) : Type 0 where
+  pub most : lots ≤ 200_000_000
 
 -- the match has `had` lots of an issue of this rate, and is worth `reached`
 pub record Part (w had reached : ℕ) : Type 0 where
@@ -70,22 +75,33 @@ pub record Rounding (w had usable reached goal : ℕ) : Type 0 where
   pub kept : reached ≤ goal
   pub goal-most : goal ≤ 10_000_000_000_000
 
--- the first pass has whole units, and keeps to its target
+-- an issue is met once in the first pass, which keeps to its target
 pub record Rounded (had reached amount : ℕ) : Type 0 where
-  pub whole : had / unit * unit ≡ had
+  pub none : had ≡ 0
   pub kept : reached ≤ target amount
 
 pub record Turnable (pass w had usable reached amount : ℕ) : Type 0 where
   pub part : Part w had reached
   pub bounded : had ≤ boundOf pass usable had
+  pub within : had ≤ usable
   pub usable-most : usable ≤ 200_000_000
   pub below : reached < amount
   pub amount-most : amount ≤ 10_000_000_000_000
   pub first : pass ≡ 1 → Rounded had reached amount
-  -- an issue is met once in the second pass: until then it has what the first took
+  -- and once in the second: until then it has what the first took
   pub second : pass ≡ 2 → had / unit * unit ≡ had
 
 -- n lots of the issue, and what the match is then worth
 pub record Turned (t : Terms) (others n : ℕ) (r : Turn) : Type 0 where
   pub lots : r .lots .0 ≡ n
   pub worth : r .reached .0 ≡ others + value t n
+
+-- n lots were taken, whatever the terms of the rate
+pub record Valued (w others n : ℕ) (r : Turn) : Type 0 where
+  pub taken : r .taken ≡ true
+  pub turned : (t : Terms) → Rated t w → Turned t others n r
+
+-- the issue had so many lots, and has n
+pub record Took (t : Terms) (had reached n : ℕ) (r : Turn) : Type 0 where
+  pub turned : Turned t (besides t had reached) n r
+  pub still : r .taken ≡ false → n ≡ had

@@ -8,6 +8,7 @@ use mathlib.Core.List.{List, [], _∷_}
 use lib.ListN.{length, getD, take}
 use Rattle.rule.specs.Value.{Terms, noTerms, value}
 use Rattle.rule.specs.Filling.{worth}
+use Rattle.rule.proofs.ValueLaws.{value-zero}
 use Rattle.value.specs.Rate.{rate, Valuable}
 use Rattle.value.proofs.RateLaws.{value-most}
 use Rattle.value.specs.Rated.{Rated, Rates, Stocked}
@@ -42,8 +43,8 @@ module _ {issues : ℕ} {usable rates : List ℕ} where
       pub part-small : part ≤ 1_600_273_972_602_739
       part-small = omega (arith, e _ (its-rate .rated), value-most (getD (p .terms) i noTerms) {n = getD usable i 0} (rw (its-rate .rated) at valuable))
 
-      pub sum-more : {sum : ℕ} → Summed issues usable rates sum i → Summed issues usable rates (sum + part) (i + 1)
-      sum-more s = record {
+      pub sum-more : {sum next : ℕ} → next ≡ sum + part → Summed issues usable rates sum i → Summed issues usable rates next (i + 1)
+      sum-more q s = record {
         at = omega arith;
         small = omega (arith, s .small, part-small);
         summed = λ ts sized rated.
@@ -55,6 +56,10 @@ module _ {issues : ℕ} {usable rates : List ℕ} where
               e (getD ts i noTerms) (rated .each i (omega arith) .rated),
             ));
       }
+
+    -- where no lot may be used nothing is added
+    pub sum-same : {sum next : ℕ} → getD usable i 0 ≤ 0 → next ≡ sum → Summed issues usable rates sum i → Summed issues usable rates next (i + 1)
+    sum-same none q = sum-more {part = 0} (λ t rated. let n : getD usable i 0 ≡ 0 = omega arith in rw (n, value-zero)) (omega arith)
 
   pub sum-all : {sum i : ℕ} → Summed issues usable rates sum i → issues ≤ i
       → (ts : List Terms) → length ts ≡ issues → Rates ts rates → sum ≡ worth ts (take issues usable)

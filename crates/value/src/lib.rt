@@ -79,8 +79,10 @@ pub fn worth(usable: &[u64; 32], rates: &[u64; 32], issues: usize) -> Yen
 {
     let mut sum: u64 = 0;
     for i in 0..issues {
-        let part = value(Rate(rates[i]), Lots(usable[i]));
-        sum = sum + part.0;
+        if usable[i] > 0 {
+            let part = value(Rate(rates[i]), Lots(usable[i]));
+            sum = sum + part.0;
+        }
     }
     Yen(sum)
 }

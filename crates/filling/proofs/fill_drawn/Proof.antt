@@ -6,16 +6,16 @@ use Rattle.filling.proofs.fill_drawn.Statement.{statement}
 use Rattle.filling.proofs.fill_drawn.Tie as tie
 
 abbrev Inv-loop : tie.InvT-loop
-Inv-loop lots₀ usable rates order issues amount reached₀ pass k₀ lots reached k = InPass issues rates usable order (amount .0) pass k lots (reached .0)
+Inv-loop lots₀ usable rates order issues count amount reached₀ pass k₀ lots reached k = InPass issues count rates usable order (amount .0) pass k lots (reached .0)
 
 abbrev μ-loop : tie.MeasureT-loop
-μ-loop lots₀ usable rates order issues amount reached₀ pass k₀ lots reached k = issues - k
+μ-loop lots₀ usable rates order issues count amount reached₀ pass k₀ lots reached k = count - k
 
 abbrev Inv-passes : tie.InvT-passes
-Inv-passes lots₀ usable rates order issues amount reached₀ pass₀ lots reached pass = AtPass issues rates usable order (amount .0) pass lots (reached .0)
+Inv-passes lots₀ usable rates order issues count amount reached₀ pass₀ lots reached pass = AtPass issues count rates usable order (amount .0) pass lots (reached .0)
 
 abbrev μ-passes : tie.MeasureT-passes
-μ-passes lots₀ usable rates order issues amount reached₀ pass₀ lots reached pass = 4 - pass
+μ-passes lots₀ usable rates order issues count amount reached₀ pass₀ lots reached pass = 4 - pass
 
 -- the function's entry
 abbrev start : tie.In-loop Inv-loop μ-loop Inv-passes μ-passes → tie.Start Inv-loop μ-loop Inv-passes μ-passes
@@ -31,7 +31,7 @@ mul-i : tie.Need-mul-i Inv-loop μ-loop Inv-passes μ-passes
 mul-i c = omega arith
 
 element-copy-out-i : tie.Need-element-copy-out-i Inv-loop μ-loop Inv-passes μ-passes
-element-copy-out-i c = omega (arith, start c .pre .fillable .stock .issues-most)
+element-copy-out-i c = omega (arith, start c .pre .fillable .named .few)
 
 take-turn-requires : tie.Need-take-turn-requires Inv-loop μ-loop Inv-passes μ-passes
 take-turn-requires c κs =
@@ -47,7 +47,7 @@ loop-less c = omega arith
 
 loop-again : tie.Need-loop-again Inv-loop μ-loop Inv-passes μ-passes
 loop-again c =
-    let t = c .before .before .before in
+    let t = c .before .before in
     let i = t .before .before .before in
     let s = start i in
     on (s .pre .fillable) (i .before .loop .inv) (i .loop-test .taken) (t .take-turn .ensures) (c .if1 .left)
@@ -68,7 +68,7 @@ returns c = let s = c .before .before in done (s .pre .fillable) (c .passes-test
 
 returns-2 : tie.Need-returns-2 Inv-loop μ-loop Inv-passes μ-passes
 returns-2 c =
-    let t = c .before .before .before in
+    let t = c .before .before in
     let i = t .before .before .before in
     let s = start i in
     out (s .pre .fillable) (i .before .loop .inv) (i .loop-test .taken) (t .take-turn .ensures) (c .if1 .taken)

@@ -6,10 +6,10 @@ use Rattle.filling.proofs.fill_preferential.Statement.{statement}
 use Rattle.filling.proofs.fill_preferential.Tie as tie
 
 abbrev Inv-loop : tie.InvT-loop
-Inv-loop lots₀ usable rates order issues amount reached₀ k₀ lots reached k = InWalk issues rates usable order (amount .0) k lots (reached .0)
+Inv-loop lots₀ usable rates order issues count amount reached₀ k₀ lots reached k = InWalk issues count rates usable order (amount .0) k lots (reached .0)
 
 abbrev μ-loop : tie.MeasureT-loop
-μ-loop lots₀ usable rates order issues amount reached₀ k₀ lots reached k = issues - k
+μ-loop lots₀ usable rates order issues count amount reached₀ k₀ lots reached k = count - k
 
 loop-holds : tie.Need-loop-holds Inv-loop μ-loop
 loop-holds c = walk-begin (c .pre .fillable) (c .pre .some)
@@ -18,7 +18,7 @@ mul-i : tie.Need-mul-i Inv-loop μ-loop
 mul-i c = omega arith
 
 element-copy-out-i : tie.Need-element-copy-out-i Inv-loop μ-loop
-element-copy-out-i c = omega (arith, c .before .before .pre .fillable .stock .issues-most)
+element-copy-out-i c = omega (arith, c .before .before .pre .fillable .named .few)
 
 take-turn-requires : tie.Need-take-turn-requires Inv-loop μ-loop
 take-turn-requires c κs =
@@ -33,7 +33,7 @@ loop-less c = omega arith
 
 loop-again : tie.Need-loop-again Inv-loop μ-loop
 loop-again c =
-    let t = c .before .before .before in
+    let t = c .before .before in
     let i = t .before .before .before in
     walk-on (i .before .before .pre .fillable) (i .before .loop .inv) (i .loop-test .taken) (t .take-turn .ensures) (c .if1 .left)
 
@@ -42,7 +42,7 @@ returns c = walk-done (c .before .before .pre .fillable) (c .loop-test .left) (c
 
 returns-2 : tie.Need-returns-2 Inv-loop μ-loop
 returns-2 c =
-    let t = c .before .before .before in
+    let t = c .before .before in
     let i = t .before .before .before in
     walk-out (i .before .before .pre .fillable) (i .before .loop .inv) (i .loop-test .taken) (t .take-turn .ensures) (c .if1 .taken)
 

@@ -1,9 +1,8 @@
 -- `filling::take_turn` meets its contract. Assumes nothing.
-use mathlib.Core.Path.{_≡_, ap}
-use mathlib.Core.List.{List}
-use Prim.Native.Nat.{ℕ}
+use mathlib.Core.Path.{refl}
 use borrow.Author.Needs.{needs}
-use lib.ListN.{set}
+use borrow.Author.Tests.{not-true}
+use Rattle.filling.proofs.RowLaws.{step-idle, step-taken}
 use Rattle.filling.proofs.take_turn.Statement.{statement}
 use Rattle.filling.proofs.take_turn.Tie as tie
 
@@ -13,20 +12,23 @@ mul-had c = search needs
 element-copy-out-had : tie.Need-element-copy-out-had
 element-copy-out-had c = search needs
 
-mul-t11 : tie.Need-mul-t11
-mul-t11 c = search needs
+mul-t12 : tie.Need-mul-t12
+mul-t12 c = search needs
 
-element-copy-out-t14 : tie.Need-element-copy-out-t14
-element-copy-out-t14 c = search needs
+element-copy-out-t15 : tie.Need-element-copy-out-t15
+element-copy-out-t15 c = search needs
 
-mul-t19 : tie.Need-mul-t19
-mul-t19 c = search needs
+mul-t20 : tie.Need-mul-t20
+mul-t20 c = search needs
 
-element-copy-out-t22 : tie.Need-element-copy-out-t22
-element-copy-out-t22 c = search needs
+element-copy-out-t23 : tie.Need-element-copy-out-t23
+element-copy-out-t23 c = search needs
 
 next-requires : tie.Need-next-requires
-next-requires c κs = c .before .before .before .pre .turnable
+next-requires c κs = search needs
+
+returns : tie.Need-returns
+returns c = let n = c .before .before in step-idle (n .before .before .before .before .pre .turnable) (n .next .ensures) (not-true _ (c .if1 .taken)) refl refl
 
 mul-lots : tie.Need-mul-lots
 mul-lots c = search needs
@@ -34,11 +36,8 @@ mul-lots c = search needs
 element-write-lots : tie.Need-element-write-lots
 element-write-lots c = search needs
 
-returns : tie.Need-returns
-returns c = λ t q.
-    let e = c .before .before .next .ensures t q in
-    let x = c .before .before .before .before .before .before .args in
-    record { cells = ap (λ (n : ℕ). set (x .lots .now) (x .i) n) (e .lots); worth = e .worth }
+returns-2 : tie.Need-returns-2
+returns-2 c = let n = c .before .before .before .before .before .before in step-taken (n .before .before .before .before .pre .turnable) (n .next .ensures) refl refl
 
 pub take-turn-spec : {M : Type 1} → statement M
 take-turn-spec =
@@ -46,11 +45,12 @@ take-turn-spec =
     (tie.spec
     mul-had
     element-copy-out-had
-    mul-t11
-    element-copy-out-t14
-    mul-t19
-    element-copy-out-t22
+    mul-t12
+    element-copy-out-t15
+    mul-t20
+    element-copy-out-t23
     next-requires
+    returns
     mul-lots
     element-write-lots
-    returns)
+    returns-2)

@@ -1,17 +1,16 @@
 -- `matched::order_for` meets its contract. Assumes nothing.
 use mathlib.Core.Path.{refl}
-use Prim.Native.Nat.{_-_}
 use borrow.Author.Needs.{needs}
 use borrow.Author.Tests.{not-true}
-use Rattle.matched.proofs.OrderLaws.{still-sorted, not-asked, now-sorted}
+use Rattle.matched.proofs.OrderLaws.{still-listed, not-asked, now-listed}
 use Rattle.matched.proofs.order_for.Statement.{statement}
 use Rattle.matched.proofs.order_for.Tie as tie
 
-is-sorted-requires : tie.Need-is-sorted-requires
-is-sorted-requires c κs = search needs
+is-listed-requires : tie.Need-is-listed-requires
+is-listed-requires c κs = search needs
 
 returns : tie.Need-returns
-returns c = still-sorted (c .before .before .before .before .before .pre) _ (c .before .is-sorted .ensures (c .if1 .taken))
+returns c = still-listed (c .before .before .before .before .before .pre) _ (c .before .is-listed .ensures (c .if1 .taken))
 
 mul-deliverer : tie.Need-mul-deliverer
 mul-deliverer c = search needs
@@ -62,13 +61,13 @@ same-length : tie.Need-same-length
 same-length c = search needs
 
 returns-3 : tie.Need-returns-3
-returns-3 c = now-sorted (c .before .before .before .before .before .before .before .before .before .before .before .before .before .before .before .before .pre) _ _ refl (c .before .before .load-order .ensures)
+returns-3 c = now-listed (c .before .before .before .before .before .before .before .before .before .before .before .before .before .before .before .before .pre) _ _ refl (c .before .before .load-order .ensures)
 
 pub order-for-spec : {M : Type 1} → statement M
 order-for-spec =
     tie.close
     (tie.spec
-    is-sorted-requires
+    is-listed-requires
     returns
     mul-deliverer
     mul-deliverer-2

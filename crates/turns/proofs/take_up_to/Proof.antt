@@ -21,7 +21,7 @@ all c = c .before .before .before .before .before .before
 -- all of the bound would reach the amount
 enough : (c : tie.After-struct-known6) → (t : Terms) → Rated t (start (others (all c)) .args .rate .0)
     → start (others (all c)) .args .amount .0 ≤ others (all c) .others .result .0 + value t (start (others (all c)) .args .bound .0)
-enough c t q = omega (arith, all c .with-lots .ensures t q .worth, c .before .before .if2 .left)
+enough c t q = omega (arith, all c .with-lots .ensures .turned t q .worth, c .before .before .if2 .left)
 
 returns : tie.Need-returns
 returns c = let p = c .before .before .before .pre in λ t q. idle (p .part) q (up-none p t (c .if1 .taken)) refl refl
@@ -35,7 +35,7 @@ with-lots-requires c κs = bound-addable (start c .pre) (c .others .ensures)
 returns-2 : tie.Need-returns-2
 returns-2 c =
     let a = c .before .before .before .before in
-    λ t q. up-all (start (others a) .pre) (others a .others .ensures) q (a .with-lots .ensures t q) (c .if2 .taken)
+    λ t q. up-all (start (others a) .pre) (others a .others .ensures) q (a .with-lots .ensures) (c .if2 .taken)
 
 sub-t11 : tie.Need-sub-t11
 sub-t11 c = let o = others (all c) in omega (arith, rest-below (start o .pre) (o .others .ensures))
@@ -55,7 +55,7 @@ returns-3 : tie.Need-returns-3
 returns-3 c =
     let o = others (all (c .before .before)) in
     λ t q.
-    up-few (start o .pre) (o .others .ensures) q (enough (c .before .before) t q) (c .before .fewest .ensures t (some-price q) (q .rated)) (c .with-lots2 .ensures t q)
+    up-few (start o .pre) (o .others .ensures) q (enough (c .before .before) t q) (c .before .fewest .ensures t (some-price q) (q .rated)) (c .with-lots2 .ensures)
 
 pub take-up-to-spec : {M : Type 1} → statement M
 take-up-to-spec =

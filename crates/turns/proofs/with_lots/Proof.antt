@@ -15,7 +15,10 @@ add-t5 c =
     omega (arith, part-small a (λ t q. c .before .before .value .ensures t (q .rated)))
 
 returns : tie.Need-returns
-returns c = λ t q. record { lots = refl; worth = ap (λ (part : ℕ). c .before .before .before .args .others .0 + part) (c .before .before .value .ensures t (q .rated)) }
+returns c = record {
+  taken = refl;
+  turned = λ t q. record { lots = refl; worth = ap (λ (part : ℕ). c .before .before .before .args .others .0 + part) (c .before .before .value .ensures t (q .rated)) };
+}
 
 pub with-lots-spec : {M : Type 1} → statement M
 with-lots-spec = tie.close (tie.spec value-requires add-t5 returns)

@@ -1,12 +1,12 @@
--- `runs::run::run` meets its contract. Assumes nothing.
+-- `runs::whole::run` meets its contract. Assumes nothing.
 use mathlib.Core.Path.{refl, sym, _∙_}
 use Prim.Native.Nat.{_-_}
 use native.Mathlib.Omega.{arith}
 use borrow.Author.Needs.{needs}
 use lib.ListN.{length-set}
 use Rattle.runs.proofs.RanLaws.{rates-asked, stock-asked, clear-asked, run-done, runs-few}
-use Rattle.runs.proofs.run.run.Statement.{statement}
-use Rattle.runs.proofs.run.run.Tie as tie
+use Rattle.runs.proofs.whole.run.Statement.{statement}
+use Rattle.runs.proofs.whole.run.Tie as tie
 
 slice-read-issues : tie.Need-slice-read-issues
 slice-read-issues c = omega (arith, c .before .before .before .before .before .pre .book .readable .size)

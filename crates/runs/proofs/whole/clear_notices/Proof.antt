@@ -1,10 +1,10 @@
--- `runs::run::clear_notices` meets its contract. Assumes nothing.
+-- `runs::whole::clear_notices` meets its contract. Assumes nothing.
 use Prim.Native.Nat.{_-_}
 use native.Mathlib.Omega.{arith}
 use borrow.Author.Needs.{needs}
 use Rattle.runs.proofs.RanLaws.{ClearedTo, cleared-none, cleared-room, cleared-more, cleared-all}
-use Rattle.runs.proofs.run.clear_notices.Statement.{statement}
-use Rattle.runs.proofs.run.clear_notices.Tie as tie
+use Rattle.runs.proofs.whole.clear_notices.Statement.{statement}
+use Rattle.runs.proofs.whole.clear_notices.Tie as tie
 
 abbrev Inv-loop : tie.InvT-loop
 Inv-loop book₀ participants issues p₀ book p = ClearedTo book₀ book p
