@@ -10,7 +10,7 @@ use native.Mathlib.Omega.{arith}
 use lib.Dec.{leb}
 use lib.ListN.{length, getD, take, drop, length-map, length-drop, List·getD-map}
 use lib.Seq.{take-suc, take-all, getD-drop, drop-drop}
-use borrow.Author.Tests.{le-leb, lt-leb, leb-true, lt-ltb, le-ltb, eq-eqb, ne-eqb, not-true, not-false}
+use borrow.Author.Tests.{le-leb, lt-leb, leb-true, lt-ltb, le-ltb, eq-eqb, ne-eqb, not-true}
 use Rattle.lists.specs.Tests.{allBelow}
 use Rattle.lists.specs.Tables.{from}
 use Rattle.lists.specs.Folds.{total, keep}

@@ -13,7 +13,7 @@ use borrow.Author.Tests.{le-leb, lt-leb}
 use Rattle.lists.proofs.TestLaws.{pick-yes, pick-no, pick-elim}
 use Rattle.rule.specs.Value.{Terms, noTerms, value, fewest}
 use Rattle.rule.specs.Allocable.{unmarked, allocable}
-use Rattle.rule.specs.Filling.{worth, Taken, nothing, others, fill, covered, Filled, forcedIssue, plain, cover, force, carry, filled}
+use Rattle.rule.specs.Filling.{worth, Taken, nothing, others, fill, covered, forcedIssue, plain, cover, force, carry, filled}
 use Rattle.rule.proofs.FillingLaws.{apart}
 use Rattle.rule.proofs.FilledLaws.{covered-all, covered-most}
 use Rattle.value.specs.Rated.{Rated, termsIn}
@@ -21,7 +21,7 @@ use Rattle.turns.specs.Turns.{besides, Short}
 use Rattle.filling.specs.Rows.{padded, Fillable}
 use Rattle.filling.specs.Match.{Idle, Matchable, Forcible, FilledAs}
 use Rattle.filling.specs.declared.Filling.{Filling}
-use Rattle.filling.proofs.RowLaws.{getD-padded, padded-zeros, length-row}
+use Rattle.filling.proofs.RowLaws.{padded-zeros, length-row}
 use Rattle.filling.proofs.NothingLaws.{fill-none}
 use Rattle.filling.proofs.WalkLaws.{priced-of}
 use Rattle.value.proofs.TermLaws.{terms-length}
@@ -183,12 +183,9 @@ module _ {issues count : ℕ} {terms notified usable order rates lots : List ℕ
     amount-most = m .amount-most;
   }
 
--- ---- for callers: no more may be used than was notified, and the lots read by issue
+-- ---- for callers: no more may be used than was notified
 
 pub allocable-most : (runs : ℕ) (t : Terms) (notified scheduled : ℕ) → allocable runs t notified scheduled ≤ notified
 unfolding allocable
 allocable-most zero t notified scheduled = pick-elim (λ n. n ≤ notified) (eqb (t .redeemed) 0) (min notified scheduled) 0 (omega arith) zero-le
 allocable-most (suc runs) t notified scheduled = pick-elim (λ n. n ≤ notified) (unmarked t) notified 0 (omega arith) zero-le
-
-pub filled-at : {m : Filled} {r : Filling} {lots : List ℕ} → FilledAs m r lots → (i : ℕ) → getD lots i 0 ≡ getD (m .lots) i 0
-filled-at {m} f i = ap (λ (l : List ℕ). getD l i 0) (f .lots-are) ∙ getD-padded (m .lots) i

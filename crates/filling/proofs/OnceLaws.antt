@@ -14,7 +14,7 @@ use Rattle.lists.specs.Tables.{from, upTo}
 use Rattle.lists.specs.Folds.{total, keep}
 use Rattle.lists.specs.Order.{ranked}
 use Rattle.lists.proofs.TestLaws.{pick-cases}
-use Rattle.lists.proofs.FoldLaws.{every-at, every-keep, total-keep}
+use Rattle.lists.proofs.FoldLaws.{every-at, every-keep, total-keep-most}
 use Rattle.lists.proofs.OrderLaws.{total-sorted, ranked-below}
 use Rattle.filling.specs.Rows.{Named}
 
@@ -58,7 +58,7 @@ order-named issues count key live order long most few e = record {
   inside = λ k h. rw (← place k h) (every-at (λ i. i < issues) 0 kept (every-keep (λ i. i < issues) live (ranked key issues) (ranked-below key issues)) k (omega (arith, size)));
   once = λ j k h i q.
       let p : ℕ = getD order k 0 in
-      one-place p kept (omega (arith, total-keep (λ x. pick (eqb x p) 1 0) live (ranked key issues), total-sorted key (λ x. pick (eqb x p) 1 0) (upTo issues), at-most-once p 0 issues))
+      one-place p kept (omega (arith, total-keep-most (λ x. pick (eqb x p) 1 0) live (ranked key issues), total-sorted key (λ x. pick (eqb x p) 1 0) (upTo issues), at-most-once p 0 issues))
       j k (omega (arith, size)) (omega (arith, size)) (place j h ∙ q) (place k i);
 }
   where

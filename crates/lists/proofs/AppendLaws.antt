@@ -6,10 +6,10 @@ use native.Mathlib.Omega.{arith}
 use native.Mathlib.Numerals.{add-one}
 use mathlib.Core.Bool.{Bool, true, false}
 use mathlib.Core.List.{List, [], _∷_, _++_, map, append-assoc}
-use lib.ListN.{length, getD, set, take, drop, length-append}
+use lib.ListN.{length, set, take, drop, length-append}
 use lib.Seq.{take-append-seam, drop-append-add, drop-drop, length-take-le}
 use Rattle.lists.specs.Tests.{pick}
-use Rattle.lists.specs.Tables.{from, upTo}
+use Rattle.lists.specs.Tables.{upTo}
 use Rattle.lists.specs.Folds.{keep, joined, Every}
 use Rattle.lists.specs.Parts.{over}
 use Rattle.lists.proofs.FoldLaws.{from-more}

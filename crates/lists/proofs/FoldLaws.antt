@@ -6,7 +6,7 @@ use native.Mathlib.Nat.{not-suc-le-zero, le-of-suc-le-suc, zero-sub, suc-mul}
 use native.Mathlib.Decide.{ℕ-discrete}
 use native.Mathlib.Numerals.{add-one}
 use native.Mathlib.Omega.{arith}
-use mathlib.Core.Bool.{Bool, true, false}
+use mathlib.Core.Bool.{Bool, false}
 use mathlib.Core.List.{List, [], _∷_, _++_, map, List·Memᴰ, List·Memᴰ·head, List·Memᴰ·tail, List·Memᴰ·cases-cons, List·Memᴰ·not-nil}
 use lib.ListN.{length, getD, set, take, drop}
 use lib.Seq.{take-suc}
@@ -220,10 +220,7 @@ keep-none f [] h = refl
 keep-none f (x ∷ xs) h = rw (h .0) (keep-none f xs (h .1))
 
 -- what is kept sums to no more
-pub total-keep : {A : Type 0} (f : A → ℕ) (t : A → Bool) (l : List A) → total f (keep t l) ≤ total f l
-total-keep f t [] = omega arith
-total-keep f t (x ∷ xs) =
-    pick-elim (λ l. total f l ≤ total f (x ∷ xs)) (t x) (x ∷ keep t xs) (keep t xs) (omega (arith, total-keep f t xs)) (omega (arith, total-keep f t xs))
-
-pub length-keep : {A : Type 0} (t : A → Bool) (l : List A) → length (keep t l) ≤ length l
-length-keep t l = omega (arith, length-total (keep t l), length-total l, total-keep (λ x. 1) t l)
+pub total-keep-most : {A : Type 0} (f : A → ℕ) (t : A → Bool) (l : List A) → total f (keep t l) ≤ total f l
+total-keep-most f t [] = omega arith
+total-keep-most f t (x ∷ xs) =
+    pick-elim (λ l. total f l ≤ total f (x ∷ xs)) (t x) (x ∷ keep t xs) (keep t xs) (omega (arith, total-keep-most f t xs)) (omega (arith, total-keep-most f t xs))

@@ -1,7 +1,6 @@
 -- Laws of lists that are not of matching. Assumes nothing.
 use mathlib.Core.Path.{_≡_, refl, sym, ap, _∙_}
 use mathlib.Core.Logic.{_≢_}
-use mathlib.Core.Bool.{Bool, true, false}
 use mathlib.Core.List.{List, [], _∷_, _++_, map, append-nil, append-assoc}
 use Prim.Native.Nat.{ℕ, zero, suc, _+_, _-_, _≤_, _<_}
 use native.Mathlib.Decide.{ℕ-discrete}
@@ -9,10 +8,9 @@ use native.Mathlib.Numerals.{add-one}
 use native.Mathlib.Omega.{arith}
 use lib.ListN.{length, getD, set, length-set}
 use lib.Seq.{ext-getD, getD-set-same, getD-set-other}
-use Rattle.lists.specs.Tests.{pick}
 use Rattle.lists.specs.Tables.{from, upTo, table}
 use Rattle.lists.specs.Parts.{block}
-use Rattle.lists.specs.Folds.{keep, Every}
+use Rattle.lists.specs.Folds.{Every}
 use Rattle.lists.proofs.PartLaws.{block-get, length-block}
 use Rattle.lists.proofs.TableLaws.{length-table, getD-table}
 use Rattle.rule.specs.Matching.{with}

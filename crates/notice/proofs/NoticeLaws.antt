@@ -20,7 +20,7 @@ use Rattle.rule.specs.Sound.{noticeLimit}
 use Rattle.rule.specs.Layout.{noticesAt, view, stored}
 use Rattle.rule.proofs.BookLaws.{SoundBook}
 use Rattle.rule.proofs.NoticeLaws.{Noticeable, length-noticeRow, notice-stored}
-use Rattle.notice.specs.Checked.{Named, Written, noticeWritten}
+use Rattle.notice.specs.Checked.{Written, noticeWritten}
 
 -- ---- the entries below j are in the row
 

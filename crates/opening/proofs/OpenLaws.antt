@@ -1,16 +1,16 @@
 -- Laws that the proofs of an opening cite. Assumes nothing.
-use mathlib.Core.Path.{_≡_, refl, sym, ap, ap₂, _∙_, subst}
-use mathlib.Core.Logic.{_⊎_, inl, inr, _≢_}
-use Prim.Native.Nat.{ℕ, zero, suc, _+_, _-_, _*_, _≤_, _<_}
+use mathlib.Core.Path.{_≡_, refl, sym, ap, ap₂, _∙_}
+use mathlib.Core.Logic.{inr, _≢_}
+use Prim.Native.Nat.{ℕ, zero, suc, _+_, _*_, _≤_, _<_}
 use native.Mathlib.Nat.{mul-le-mul, mul-le-mul-left, mul-suc, mul-zero, mul-comm}
 use native.Mathlib.Decide.{ℕ-discrete, decLt}
 use native.Mathlib.Numerals.{add-one}
 use native.Mathlib.Omega.{arith}
 use mathlib.Core.Bool.{true, false}
 use borrow.Author.Needs.{needs}
-use mathlib.Core.List.{List, [], _∷_, _++_, map, append-assoc, append-nil}
-use lib.ListN.{length, getD, set, take, length-set, length-take, length-map}
-use lib.Seq.{ext-getD, take-all, take-length, length-take-le, getD-take, getD-set-same, getD-set-other}
+use mathlib.Core.List.{List, [], _++_, map, append-assoc, append-nil}
+use lib.ListN.{length, getD, set, take, length-set}
+use lib.Seq.{ext-getD, take-all, length-take-le, getD-take, getD-set-same, getD-set-other}
 use Rattle.lists.specs.Tables.{from, table, zeros, row}
 use Rattle.lists.specs.Folds.{joined}
 use Rattle.lists.specs.Parts.{block, grid, over, rowsAt, written}

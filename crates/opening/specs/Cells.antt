@@ -1,5 +1,5 @@
 -- The room that copying needs. Assumes nothing.
-use Prim.Native.Nat.{ℕ, _+_, _*_, _≤_, _<_}
+use Prim.Native.Nat.{ℕ, _+_, _*_, _≤_}
 use mathlib.Core.List.{List}
 use lib.ListN.{length}
 

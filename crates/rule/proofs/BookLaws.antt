@@ -1,19 +1,18 @@
 -- What a sound book shows to a call that has asked. Assumes nothing.
-use mathlib.Core.Path.{_≡_, refl, sym, ap, ap₂, _∙_}
-use Prim.Native.Nat.{ℕ, _+_, _*_, _≤_, _<_}
+use mathlib.Core.Path.{_≡_, ap, _∙_}
+use Prim.Native.Nat.{ℕ, _+_, _*_, _<_}
 use native.Mathlib.Omega.{arith}
-use mathlib.Core.Bool.{Bool, true, _&&_}
-use mathlib.Core.List.{List, map}
+use mathlib.Core.Bool.{true}
+use mathlib.Core.List.{List}
 use lib.ListN.{length, getD}
 use lib.Dec.{eqb}
 use borrow.Author.Tests.{eqb-true}
 use Rattle.lists.specs.Tables.{cell}
 use Rattle.lists.specs.Parts.{grid}
 use Rattle.lists.proofs.TestLaws.{and-left, and-right}
-use Rattle.lists.proofs.PartLaws.{Shape, grid-get, grid-shape}
-use Rattle.rule.specs.Day.{Day, termsOf}
+use Rattle.lists.proofs.PartLaws.{grid-get, grid-shape}
 use Rattle.rule.specs.Sound.{sound}
-use Rattle.rule.specs.Layout.{termsAt, positionsAt, noticesAt, tallyAt, bookLength, plus, minus, view, bookFits, soundBook}
+use Rattle.rule.specs.Layout.{positionsAt, bookLength, plus, minus, view, bookFits, soundBook}
 use Rattle.rule.proofs.SoundLaws.{Sizes, sizes-of, SoundDay, sound-facts}
 use Rattle.rule.proofs.LayoutLaws.{Readable, map-cell}
 

@@ -1,7 +1,7 @@
 -- Examples of the check table and of ties, each worked out by hand. By computation. Assumes nothing.
 use mathlib.Core.Path.{_≡_, refl}
 use Prim.Native.Nat.{ℕ}
-use mathlib.Core.Bool.{Bool, true, false}
+use mathlib.Core.Bool.{true, false}
 use mathlib.Core.List.{List, [], _∷_, _++_, map}
 use Rattle.lists.specs.Tables.{upTo, zeros}
 use Rattle.lists.specs.Folds.{foldl}

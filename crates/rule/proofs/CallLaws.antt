@@ -1,20 +1,19 @@
 -- Laws of accepted calls: the book that one leaves is sound, and is viewed as the definition's day. Assumes nothing.
-use mathlib.Core.Path.{_≡_, refl, sym, ap, ap₂, _∙_, subst}
-use mathlib.Core.Logic.{_≢_}
-use Prim.Native.Nat.{ℕ, zero, suc, _+_, _-_, _*_, _≤_, _<_, min}
+use mathlib.Core.Path.{_≡_, refl, ap}
+use Prim.Native.Nat.{ℕ, zero, suc, _≤_, _<_, min}
 use native.Mathlib.Omega.{arith}
 use mathlib.Core.Bool.{Bool, true, false, not, _&&_}
 use mathlib.Core.List.{List, [], _∷_}
 use lib.ListN.{length, getD}
-use lib.Dec.{eqb, ltb, leb}
+use lib.Dec.{ltb, leb}
 use borrow.Author.Tests.{ltb-true, ltb-false, leb-true, leb-false, eqb-true, eqb-false, not-false, eq-eqb}
-use Rattle.lists.specs.Tests.{first, allBelow}
+use Rattle.lists.specs.Tests.{first}
 use Rattle.lists.specs.Tables.{zeros, cell}
 use Rattle.lists.specs.Folds.{Every}
 use Rattle.lists.proofs.TestLaws.{and-left, and-right, all-at, both-ways}
 use Rattle.lists.proofs.TableLaws.{length-zeros}
-use Rattle.rule.specs.Day.{Given, Day, givenOf, opened, traded, noticed}
-use Rattle.rule.specs.Sound.{sound, positionLimit, tradeLimit, noticeLimit, tradable}
+use Rattle.rule.specs.Day.{Day, givenOf, opened, traded, noticed}
+use Rattle.rule.specs.Sound.{positionLimit, noticeLimit, tradable}
 use Rattle.rule.specs.Calls.{Reply, accepted, counts, refused, answer, openChecks, refusal, tradeChecks, noticeChecks}
 use Rattle.rule.specs.Layout.{bookLength, view, stored, bookFits, soundBook, openOf, tradeOf, noticeOf}
 use Rattle.rule.proofs.SoundLaws.{SoundDay, facts-sound}

@@ -2,12 +2,12 @@
 -- Assumes nothing.
 use mathlib.Core.Path.{_≡_, refl}
 use Prim.Native.Nat.{ℕ}
-use mathlib.Core.Bool.{Bool, false}
+use mathlib.Core.Bool.{false}
 use mathlib.Core.List.{List, [], _∷_, map}
 use lib.ListN.{length}
 use Rattle.lists.specs.Tables.{zeros}
 use Rattle.rule.specs.Value.{Terms}
-use Rattle.rule.specs.Filling.{Filled, fillDrawn, fillPreferential, filled, covered, forcedIssue}
+use Rattle.rule.specs.Filling.{fillDrawn, fillPreferential, filled, covered, forcedIssue}
 use Rattle.rule.proofs.NumberRule.{numberRule}
 
 abbrev ofKind : ℕ → Terms

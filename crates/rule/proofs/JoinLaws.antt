@@ -1,5 +1,5 @@
 -- Laws of rows of one length that stand one after the other in one list: the list is read back as the rows. Assumes nothing.
-use mathlib.Core.Path.{_≡_, refl, sym, ap, _∙_}
+use mathlib.Core.Path.{_≡_, refl, ap, _∙_}
 use Prim.Native.Nat.{ℕ, zero, suc, _+_, _*_, _≤_, _<_}
 use native.Mathlib.Nat.{not-suc-le-zero, le-of-suc-le-suc, mul-suc, mul-zero, mul-le-mul-left, le-refl}
 use native.Mathlib.Omega.{arith}

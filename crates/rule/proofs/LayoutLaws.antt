@@ -2,26 +2,24 @@
 -- book with the day stored. Assumes nothing.
 use mathlib.Core.Path.{_≡_, refl, sym, ap, ap₂, _∙_, subst}
 use mathlib.Core.Logic.{_⊎_, inl, inr}
-use Prim.Native.Nat.{ℕ, zero, suc, _+_, _-_, _*_, _%_, _≤_, _<_, min}
+use Prim.Native.Nat.{ℕ, zero, suc, _+_, _-_, _*_, _≤_, _<_, min}
 use native.Mathlib.Nat.{le-refl}
 use native.Mathlib.Decide.{decLt}
 use native.Mathlib.Omega.{arith}
-use mathlib.Core.Bool.{Bool, true, false}
-use mathlib.Core.List.{List, [], _∷_, _++_, map}
-use lib.ListN.{length, getD, length-map, List·getD-map}
+use mathlib.Core.List.{List, [], _∷_, map}
+use lib.ListN.{length, getD, length-map}
 use lib.Seq.{ext-getD}
 use lib.Dec.{ltb}
 use borrow.Author.Tests.{lt-ltb, le-ltb}
-use Rattle.lists.specs.Tests.{pick}
-use Rattle.lists.specs.Tables.{table, zeros, zeroRows, row, cell}
+use Rattle.lists.specs.Tables.{table, row, cell}
 use Rattle.lists.specs.Folds.{joined, Every}
 use Rattle.lists.specs.Parts.{block, grid, rowsAt, written}
 use Rattle.lists.proofs.TestLaws.{pick-yes, pick-no}
 use Rattle.lists.proofs.FoldLaws.{every-join, every-parts, every-joined, joined-at}
 use Rattle.lists.proofs.TableLaws.{length-table, getD-table, getD-map}
-use Rattle.lists.proofs.PartLaws.{Inside, Outside, Reads, Rising, length-written, written-is, written-out, written-reads, Chain, rising-chain, rising-joined, Shape, Stands, stands-reads, reads-stands, rows-inside, rows-rise, rows-at, stands-agree, stands-grid, grid-shape, grid-stands, table-agree}
+use Rattle.lists.proofs.PartLaws.{Inside, Outside, Reads, Rising, length-written, written-is, written-out, written-reads, Chain, rising-chain, rising-joined, Shape, Stands, stands-reads, reads-stands, rows-inside, rows-rise, rows-at, stands-agree, stands-grid, grid-shape, grid-stands}
 use Rattle.rule.specs.Value.{Terms, noTerms}
-use Rattle.rule.specs.Day.{Given, State, Day, baskets, mark, termsOf}
+use Rattle.rule.specs.Day.{Given, Day, baskets, termsOf}
 use Rattle.rule.specs.Layout.{codesAt, termsAt, receiptsAt, pairsAt, positionsAt, noticesAt, todayAt, tallyAt, bookLength, plus, minus, signed, signedRows, cube, view, termsRow, cubeRows, givenTables, tablesOf, stored}
 
 -- ---- a signed number and its cell

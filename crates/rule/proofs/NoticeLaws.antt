@@ -1,24 +1,23 @@
 -- Laws of a notice: one row of the book is written, and no other cell; an accepted one leaves a sound day. Assumes nothing.
-use mathlib.Core.Path.{_≡_, refl, sym, ap, ap₂, _∙_, subst}
+use mathlib.Core.Path.{_≡_, sym, _∙_, subst}
 use mathlib.Core.Logic.{_⊎_, inl, inr, _≢_}
-use Prim.Native.Nat.{ℕ, zero, suc, _+_, _-_, _*_, _≤_, _<_}
+use Prim.Native.Nat.{ℕ, _+_, _*_, _≤_, _<_}
 use native.Mathlib.Decide.{decLt, ℕ-discrete}
 use native.Mathlib.Omega.{arith}
-use mathlib.Core.Bool.{Bool, true, false}
-use mathlib.Core.List.{List, [], _∷_}
+use mathlib.Core.List.{List, []}
 use lib.ListN.{length, getD, set, length-set}
 use lib.Seq.{getD-set-same, getD-set-other}
-use Rattle.lists.specs.Tables.{upTo, from, zeros, row, cell}
-use Rattle.lists.specs.Folds.{foldl, joined, Every}
+use Rattle.lists.specs.Tables.{upTo, zeros, row, cell}
+use Rattle.lists.specs.Folds.{joined, Every}
 use Rattle.lists.specs.Parts.{over}
 use Rattle.lists.proofs.FoldLaws.{fold-kept, every-from}
 use Rattle.lists.proofs.TableLaws.{length-table, getD-zeros, set-kept}
 use Rattle.lists.proofs.PartLaws.{Outside, Shape, Stands, length-over, over-in, over-out}
-use Rattle.rule.specs.Day.{Given, State, Day, noticeRow, noticed}
-use Rattle.rule.specs.Layout.{positionsAt, noticesAt, todayAt, tallyAt, bookLength, view, tablesOf, stored}
+use Rattle.rule.specs.Day.{Day, noticeRow, noticed}
+use Rattle.rule.specs.Layout.{noticesAt, todayAt, view, tablesOf, stored}
 use Rattle.rule.specs.Sound.{noticeLimit}
 use Rattle.rule.proofs.SoundLaws.{Most, SoundDay}
-use Rattle.rule.proofs.LayoutLaws.{Shaped, Holds, Readable, given-kept, positions-kept, today-kept, tally-kept, outside-sizes, outside-notice, view-shaped, view-holds, stored-is}
+use Rattle.rule.proofs.LayoutLaws.{Shaped, Holds, Readable, given-kept, positions-kept, today-kept, tally-kept, outside-notice, view-shaped, view-holds, stored-is}
 
 -- ---- the row of a notice
 

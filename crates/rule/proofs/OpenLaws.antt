@@ -1,29 +1,27 @@
 -- Laws of an opening: an accepted one gives a sound day, and the book holds it. Assumes nothing.
-use mathlib.Core.Path.{_≡_, refl, sym, ap, ap₂, _∙_, subst}
-use mathlib.Core.Logic.{_⊎_, inl, inr, _≢_}
-use Prim.Native.Nat.{ℕ, zero, suc, _+_, _-_, _*_, _≤_, _<_}
+use mathlib.Core.Path.{_≡_, sym, ap, ap₂, _∙_}
+use mathlib.Core.Logic.{inl, inr}
+use Prim.Native.Nat.{ℕ, _+_, _*_, _≤_, _<_}
 use native.Mathlib.Nat.{mul-comm, mul-le-mul-left, mul-suc, le-refl}
-use native.Mathlib.Decide.{decLt, ℕ-discrete}
 use native.Mathlib.Omega.{arith}
-use mathlib.Core.Bool.{Bool, true, false, _&&_}
-use mathlib.Core.List.{List, [], _∷_, map}
+use mathlib.Core.Bool.{true}
+use mathlib.Core.List.{List, []}
 use lib.ListN.{length, getD, set, length-map, length-set}
 use lib.Seq.{getD-set-same, getD-set-other}
 use lib.Dec.{eqb}
 use borrow.Author.Tests.{eq-eqb}
-use Rattle.lists.specs.Tests.{pick, allBelow}
+use Rattle.lists.specs.Tests.{allBelow}
 use Rattle.lists.specs.Tables.{table, zeros, zeroRows, row, cell}
-use Rattle.lists.specs.Folds.{sum, total, joined, Every}
-use Rattle.lists.specs.Parts.{grid, rowsAt, written}
-use Rattle.lists.proofs.TestLaws.{and-left, and-right, all-of, go}
+use Rattle.lists.specs.Folds.{sum, joined, Every}
+use Rattle.lists.specs.Parts.{grid, written}
+use Rattle.lists.proofs.TestLaws.{all-of, go}
 use Rattle.lists.proofs.FoldLaws.{sum-zeros, every-map, every-join, every-parts}
 use Rattle.lists.proofs.TableLaws.{length-table, length-zeros, getD-table, getD-zeros}
 use Rattle.lists.proofs.PartLaws.{Inside, Outside, Shape, Stands, grid-shape, length-written, written-out, written-reads, rising-past}
-use Rattle.rule.specs.Value.{Terms, noTerms}
 use Rattle.rule.specs.Isin.{codesRight}
-use Rattle.rule.specs.Day.{Given, State, Day, baskets, mark, termsOf, givenOf, opened}
+use Rattle.rule.specs.Day.{Given, baskets, mark, termsOf, givenOf, opened}
 use Rattle.rule.specs.Layout.{codesAt, positionsAt, noticesAt, todayAt, tallyAt, bookLength, signed, signedRows, givenTables, tablesOf, stored}
-use Rattle.rule.specs.Sound.{sizesFit, allTermsFit, atMost, receiptsFit, marksFit, tradable, positionLimit, noticeLimit, tallyLimit, tradeLimit}
+use Rattle.rule.specs.Sound.{sizesFit, allTermsFit, atMost, receiptsFit, marksFit, tradable, positionLimit, noticeLimit, tallyLimit}
 use Rattle.rule.proofs.SoundLaws.{Most, of-most, Sizes, sizes-of, SoundDay}
 use Rattle.rule.proofs.LayoutLaws.{Shaped, Signed, Signs, Holds, signed-cell, given-inside, given-rise, reads-given, outside-sizes, stored-is}
 

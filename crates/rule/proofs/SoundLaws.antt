@@ -1,23 +1,19 @@
 -- Soundness as facts, both ways; and that an accepted opening, trade and notice leave a sound day. Assumes nothing.
-use mathlib.Core.Path.{_≡_, refl, sym, ap, ap₂, _∙_, subst}
-use mathlib.Core.Logic.{_⊎_, inl, inr, _≢_}
-use Prim.Native.Nat.{ℕ, zero, suc, _+_, _-_, _*_, _≤_, _<_, min}
-use native.Mathlib.Nat.{not-suc-le-zero, le-of-suc-le-suc}
-use native.Mathlib.Decide.{decLt, ℕ-discrete}
+use mathlib.Core.Path.{_≡_}
+use mathlib.Core.Logic.{_⊎_, inl, inr}
+use Prim.Native.Nat.{ℕ, _+_, _*_, _≤_, _<_}
+use native.Mathlib.Decide.{decLt}
 use native.Mathlib.Omega.{arith}
-use mathlib.Core.Bool.{Bool, true, false, not, _&&_, _||_}
-use mathlib.Core.List.{List, [], _∷_}
-use lib.ListN.{length, getD, set}
+use mathlib.Core.Bool.{Bool, true, _&&_, _||_}
+use mathlib.Core.List.{List}
 use lib.Dec.{leb, ltb, eqb}
-use borrow.Author.Tests.{le-leb, lt-leb, leb-true, leb-false, lt-ltb, ltb-true, ltb-false, le-ltb, eq-eqb, eqb-true, ne-eqb, eqb-false}
-use Rattle.lists.specs.Tests.{pick, allBelow, holds}
-use Rattle.lists.specs.Tables.{row, cell, table, zeros, zeroRows, put}
-use Rattle.lists.specs.Folds.{sum, total}
+use borrow.Author.Tests.{le-leb, leb-true, lt-ltb, ltb-true, eq-eqb, eqb-true}
+use Rattle.lists.specs.Tests.{allBelow}
+use Rattle.lists.specs.Tables.{row, cell}
+use Rattle.lists.specs.Folds.{sum}
 use Rattle.lists.proofs.TestLaws.{holds-at, holds-all, or-left, or-right, all-at, all-of, and-left, and-right, or-cases, go}
-use Rattle.lists.proofs.TableLaws.{length-table, getD-table, getD-zeros}
-use Rattle.rule.specs.Value.{Terms, noTerms}
 use Rattle.rule.specs.Isin.{codesRight}
-use Rattle.rule.specs.Day.{Given, State, Day, baskets, mark}
+use Rattle.rule.specs.Day.{State, Day}
 use Rattle.rule.specs.Sound.{sizesFit, allTermsFit, atMost, receiptsFit, marksFit, tradable, positionLimit, noticeLimit, tallyLimit, tradeLimit, sound}
 
 -- every cell of n rows of m is at most a bound

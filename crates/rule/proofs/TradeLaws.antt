@@ -1,19 +1,18 @@
 -- Laws of a trade: what it does to the two positions and to nothing else, and that an accepted one leaves a sound day. Assumes nothing.
-use mathlib.Core.Path.{_≡_, refl, sym, ap, ap₂, _∙_, subst}
-use mathlib.Core.Logic.{_⊎_, inl, inr, _≢_}
-use Prim.Native.Nat.{ℕ, zero, suc, _+_, _-_, _*_, _≤_, _<_, min}
-use native.Mathlib.Decide.{decLt, ℕ-discrete}
+use mathlib.Core.Path.{_≡_, refl, sym, ap₂, _∙_}
+use mathlib.Core.Logic.{_⊎_, inr, _≢_}
+use Prim.Native.Nat.{ℕ, _+_, _-_, _≤_, _<_}
+use native.Mathlib.Decide.{ℕ-discrete}
 use native.Mathlib.Omega.{arith}
-use mathlib.Core.Bool.{Bool, true, false}
-use mathlib.Core.List.{List, [], _∷_}
-use lib.ListN.{length, getD, set}
+use mathlib.Core.Bool.{true}
+use mathlib.Core.List.{List}
 use Rattle.lists.specs.Tables.{row, cell, put}
 use Rattle.lists.specs.Folds.{sum}
 use Rattle.lists.proofs.FoldLaws.{sum-set}
 use Rattle.lists.proofs.PartLaws.{Shape, put-row, put-row-other, put-shape, put-same, put-other}
-use Rattle.rule.specs.Day.{Given, State, Day, withPosition, withTrades, traded}
+use Rattle.rule.specs.Day.{Day, traded}
 use Rattle.rule.specs.Sound.{tradable, positionLimit, tradeLimit}
-use Rattle.rule.proofs.SoundLaws.{Most, SoundDay}
+use Rattle.rule.proofs.SoundLaws.{SoundDay}
 use Rattle.rule.proofs.LayoutLaws.{Shaped}
 
 -- what an accepted trade has shown

@@ -1,18 +1,17 @@
 -- A trade in the book: two positions and the trade count are stored, and no other cell. Assumes nothing.
-use mathlib.Core.Path.{_≡_, refl, sym, ap, ap₂, _∙_, subst}
+use mathlib.Core.Path.{_≡_, sym, ap₂, _∙_}
 use mathlib.Core.Logic.{_⊎_, inl, inr, _≢_}
-use Prim.Native.Nat.{ℕ, zero, suc, _+_, _-_, _*_, _%_, _≤_, _<_}
-use native.Mathlib.Decide.{decLt, ℕ-discrete}
+use Prim.Native.Nat.{ℕ, _+_, _-_, _*_, _%_, _≤_, _<_}
+use native.Mathlib.Decide.{decLt}
 use native.Mathlib.Omega.{arith}
-use mathlib.Core.List.{List, [], _∷_}
+use mathlib.Core.List.{List}
 use lib.ListN.{length, getD, set, length-set}
 use lib.Seq.{getD-set-same, getD-set-other}
-use Rattle.lists.specs.Tables.{row, cell}
+use Rattle.lists.specs.Tables.{cell}
 use Rattle.lists.specs.Folds.{joined, Every}
-use Rattle.lists.proofs.FoldLaws.{every-parts}
 use Rattle.lists.proofs.PartLaws.{Outside, Stands}
 use Rattle.rule.specs.Day.{Day, traded}
-use Rattle.rule.specs.Layout.{codesAt, termsAt, receiptsAt, pairsAt, positionsAt, noticesAt, todayAt, tallyAt, bookLength, plus, minus, signed, signedRows, view, tablesOf, stored}
+use Rattle.rule.specs.Layout.{positionsAt, noticesAt, bookLength, plus, minus, signed, signedRows, view, tablesOf, stored}
 use Rattle.rule.specs.Sound.{positionLimit}
 use Rattle.rule.proofs.LayoutLaws.{Shaped, Holds, Readable, given-kept, notices-kept, today-kept, tally-kept, outside-sizes, outside-position, signed-cell, plus-out, plus-back, minus-out, minus-back, view-shaped, view-holds, stored-is}
 use Rattle.rule.proofs.TradeLaws.{Tradeable, owed2, due2, owed2-shape, traded-shaped, owed-seller, due-seller, owed-buyer, due-buyer, owed-other, due-other, which}

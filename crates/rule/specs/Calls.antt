@@ -1,7 +1,7 @@
 -- Document 01, "Checks, by place", and the calls on a day: a check table for each, in the paper's order. Assumes nothing.
 use Prim.Native.Nat.{ℕ, zero, suc, _+_, _-_, _*_}
 use mathlib.Core.Bool.{Bool, true, not, _&&_}
-use mathlib.Core.List.{List, [], _∷_, map}
+use mathlib.Core.List.{List, [], _∷_}
 use lib.ListN.{length, getD}
 use lib.Dec.{leb, ltb, eqb}
 use Rattle.lists.specs.Tests.{pick, allBelow, first}

@@ -1,6 +1,6 @@
 -- Document 01, "Quantities and the book": a day as tables, and what opening, trade and notice make of it. Assumes nothing.
 use Prim.Native.Nat.{ℕ, _+_, _-_, _*_}
-use mathlib.Core.List.{List, [], _∷_, map}
+use mathlib.Core.List.{List, map}
 use lib.ListN.{length, getD, set}
 use Rattle.lists.specs.Tables.{upTo, table, zeros, zeroRows, row, cell, put}
 use Rattle.lists.specs.Folds.{foldl}

@@ -6,7 +6,7 @@ use mathlib.Core.List.{List, [], _∷_, _++_, map}
 use lib.ListN.{length, getD}
 use lib.Dec.{ltb, eqb}
 use Rattle.lists.specs.Tests.{pick, first}
-use Rattle.lists.specs.Tables.{upTo, table, zeros, row, cell}
+use Rattle.lists.specs.Tables.{table, zeros, row, cell}
 use Rattle.lists.specs.Folds.{joined}
 use Rattle.lists.specs.Parts.{grid, over, rowsAt, written}
 use Rattle.rule.specs.Value.{Terms}

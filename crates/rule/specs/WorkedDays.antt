@@ -2,12 +2,11 @@
 -- Assumes nothing.
 use mathlib.Core.Path.{_≡_}
 use Prim.Native.Nat.{ℕ, _-_, _*_}
-use mathlib.Core.Bool.{Bool, true, false}
 use mathlib.Core.List.{List, [], _∷_, _++_, map}
-use lib.ListN.{length, take}
+use lib.ListN.{take}
 use Rattle.lists.specs.Tables.{zeros}
-use Rattle.rule.specs.Value.{Terms, value}
-use Rattle.rule.specs.Isin.{checkDigit, isCode}
+use Rattle.rule.specs.Value.{value}
+use Rattle.rule.specs.Isin.{checkDigit}
 use Rattle.rule.specs.Day.{Day, termsOf, givenOf, opened}
 use Rattle.rule.specs.Calls.{Reply, accepted, counts, refused, openDay, tradeDay, noticeDay, runDay}
 use Rattle.rule.specs.Layout.{bookLength, openOf, tradeOf, noticeOf, runOf}

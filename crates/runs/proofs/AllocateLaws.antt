@@ -14,7 +14,7 @@ use Rattle.filling.specs.declared.Filling.{Filling}
 use Rattle.matching.specs.Plans.{matchAt}
 use Rattle.ordering.specs.Ordered.{Ordered}
 use Rattle.matched.specs.Filled.{issuesIn, Same, Orders, keyIn, OrderedAt, OrderAsked, OrderFor, UsableAsked, UsableLots, Fillable, filledIn, Writable, Wrote}
-use Rattle.runs.specs.Running.{doneTo, doneAt, BookedTo, Running, Done, AllocateAsks}
+use Rattle.runs.specs.Running.{doneTo, doneAt, Running, Done, AllocateAsks}
 use Rattle.runs.proofs.DoneLaws.{done-begin, done-end}
 use Rattle.runs.proofs.ReadLaws.{issues-kept}
 use Rattle.runs.proofs.RunningLaws.{mayUse, usable-asks, orders-kept, order-asks, order-next, fill-asks, lots-wide, write-asks, running-more}

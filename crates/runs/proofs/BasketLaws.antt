@@ -1,7 +1,7 @@
 -- Laws of a basket's step. Assumes nothing.
 use mathlib.Core.Path.{_≡_, sym, ap, _∙_, subst}
 use mathlib.Core.List.{List, _++_, map}
-use Prim.Native.Nat.{ℕ, _+_, _-_, _*_, _≤_, _<_}
+use Prim.Native.Nat.{ℕ, _+_, _*_, _≤_, _<_}
 use native.Mathlib.Omega.{arith}
 use lib.ListN.{length, getD, take, drop, length-append, length-drop, length-map, List·getD-append}
 use lib.Seq.{length-take-le}
@@ -12,7 +12,6 @@ use Rattle.lists.proofs.TableLaws.{length-table}
 use Rattle.lists.proofs.PartLaws.{block-get, length-block}
 use Rattle.rule.specs.Value.{Terms}
 use Rattle.rule.specs.Baskets.{within}
-use Rattle.rule.specs.Matching.{plan}
 use Rattle.rule.specs.Run.{Allocation, basketPlan}
 use Rattle.rule.specs.Layout.{pairsAt, positionsAt, plus, minus, view}
 use Rattle.rule.proofs.BookLaws.{SoundBook}

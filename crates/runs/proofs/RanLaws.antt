@@ -13,7 +13,7 @@ use lib.Dec.{ltb}
 use Rattle.lists.specs.Tests.{pick}
 use Rattle.lists.specs.Tables.{table, zeros, row, cell}
 use Rattle.lists.specs.Folds.{joined, Every}
-use Rattle.lists.specs.Parts.{block, over}
+use Rattle.lists.specs.Parts.{block}
 use Rattle.lists.proofs.TableLaws.{getD-table, getD-zeros, length-zeros}
 use Rattle.lists.proofs.PartLaws.{Outside, Stands, length-block}
 use mathlib.Core.Bool.{true}

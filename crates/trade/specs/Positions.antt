@@ -1,5 +1,4 @@
 -- What moving yen between two positions of the book asks. Assumes nothing.
-use mathlib.Core.Path.{_≡_}
 use Prim.Native.Nat.{ℕ, _+_, _-_, _%_, _≤_, _<_}
 use mathlib.Core.List.{List}
 use lib.ListN.{length, getD, set}

@@ -1,16 +1,13 @@
 -- An issue's turn in a match, by numbers: the rule's steps with what the match is worth carried along. Assumes nothing.
 use mathlib.Core.Path.{_≡_}
 use mathlib.Core.Bool.{true, false}
-use mathlib.Core.List.{List, _++_}
 use Prim.Native.Nat.{ℕ, _+_, _-_, _*_, _/_, _%_, _≤_, _<_, min, max}
-use lib.ListN.{length, getD, set}
 use lib.Dec.{eqb}
 use Rattle.lists.specs.Tests.{pick}
-use Rattle.lists.specs.Tables.{zeros}
-use Rattle.rule.specs.Value.{Terms, noTerms, value, fewest, most}
+use Rattle.rule.specs.Value.{Terms, value, fewest, most}
 use Rattle.rule.specs.Filling.{unit, target}
 use Rattle.value.specs.Rate.{Valuable}
-use Rattle.value.specs.Rated.{Rated, Stocked}
+use Rattle.value.specs.Rated.{Rated}
 use Rattle.turns.specs.declared.Turn.{Turn}
 
 -- what the other issues are worth, where the match has `had` lots of this one and is worth `reached`

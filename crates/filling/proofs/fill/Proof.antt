@@ -1,6 +1,4 @@
 -- `filling::fill` meets its contract. Assumes nothing.
-use mathlib.Core.Path.{_≡_}
-use mathlib.Core.Bool.{true, false}
 use native.Mathlib.Omega.{arith}
 use Rattle.rule.specs.Filling.{fill}
 use Rattle.filling.proofs.MatchLaws.{fill-nothing}

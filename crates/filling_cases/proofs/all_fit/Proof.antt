@@ -1,5 +1,5 @@
 -- `filling_cases::all_fit` meets its contract. Assumes nothing.
-use mathlib.Core.Path.{_≡_, refl}
+use mathlib.Core.Path.{refl}
 use mathlib.Core.Bool.{false}
 use Prim.Native.Nat.{ℕ, _+_, _*_, _-_, _≤_, _<_}
 use borrow.Author.Needs.{needs}
@@ -8,7 +8,7 @@ use borrow.Author.Count.{below-more}
 use native.Mathlib.Nat.{not-suc-le-zero}
 use native.Mathlib.Omega.{arith}
 use mathlib.Core.List.{List}
-use lib.ListN.{length, getD}
+use lib.ListN.{getD}
 use Rattle.lists.proofs.TestLaws.{both-ways}
 use Rattle.filling_cases.specs.Ranges.{Fit}
 use Rattle.filling_cases.proofs.all_fit.Statement.{statement}

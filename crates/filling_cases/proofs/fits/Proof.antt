@@ -2,7 +2,6 @@
 use mathlib.Core.Path.{refl}
 use mathlib.Core.Bool.{false}
 use borrow.Author.Tests.{leb-true}
-use native.Mathlib.Omega.{arith}
 use Rattle.lists.proofs.TestLaws.{both-ways}
 use Rattle.filling_cases.proofs.fits.Statement.{statement}
 use Rattle.filling_cases.proofs.fits.Tie as tie

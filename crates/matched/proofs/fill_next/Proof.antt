@@ -1,8 +1,7 @@
 -- `matched::fill_next` meets its contract. Assumes nothing.
 use mathlib.Core.Path.{refl}
-use Prim.Native.Nat.{_-_}
 use borrow.Author.Needs.{needs}
-use Rattle.matched.proofs.FillLaws.{notices-fit, fill-asks, fill-is}
+use Rattle.matched.proofs.FillLaws.{fill-asks, fill-is}
 use Rattle.matched.proofs.fill_next.Statement.{statement}
 use Rattle.matched.proofs.fill_next.Tie as tie
 

@@ -1,6 +1,5 @@
 -- `matched::follows` meets its contract. Assumes nothing.
 use mathlib.Core.Path.{refl, sym}
-use Prim.Native.Nat.{_-_}
 use native.Mathlib.Omega.{arith}
 use borrow.Author.Needs.{needs}
 use mathlib.Core.Bool.{true}

@@ -1,6 +1,5 @@
 -- `matched::plan_basket` meets its contract. Assumes nothing.
 use mathlib.Core.Path.{sym}
-use Prim.Native.Nat.{_-_}
 use borrow.Author.Needs.{needs}
 use lib.Seq.{length-take-le}
 use Rattle.matched.proofs.plan_basket.Statement.{statement}

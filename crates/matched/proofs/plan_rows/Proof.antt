@@ -1,6 +1,5 @@
 -- `matched::plan_rows` meets its contract. Assumes nothing.
 use mathlib.Core.Path.{refl}
-use Prim.Native.Nat.{_-_}
 use native.Mathlib.Omega.{arith}
 use borrow.Author.Needs.{needs}
 use Rattle.matched.proofs.PlanLaws.{positions-fit, plan-asks, plan-is}

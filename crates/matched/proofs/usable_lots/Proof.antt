@@ -1,5 +1,4 @@
 -- `matched::usable_lots` meets its contract. Assumes nothing.
-use Prim.Native.Nat.{_-_}
 use borrow.Author.Needs.{needs}
 use Rattle.matched.proofs.FillLaws.{usable-asks, worth-asks, usable-are}
 use Rattle.matched.proofs.usable_lots.Statement.{statement}

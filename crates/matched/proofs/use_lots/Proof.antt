@@ -1,5 +1,4 @@
 -- `matched::use_lots` meets its contract. Assumes nothing.
-use Prim.Native.Nat.{_-_}
 use borrow.Author.Needs.{needs}
 use Rattle.matched.proofs.FillLaws.{use-asks, lots-used}
 use Rattle.matched.proofs.use_lots.Statement.{statement}

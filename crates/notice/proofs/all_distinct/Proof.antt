@@ -1,11 +1,11 @@
 -- `notice::all_distinct` meets its contract. Assumes nothing.
-use mathlib.Core.Path.{_≡_, refl, sym, _∙_, ap}
-use Prim.Native.Nat.{ℕ, _≤_, _<_, _-_, _+_, _*_}
+use mathlib.Core.Path.{_≡_}
+use Prim.Native.Nat.{ℕ, _≤_, _-_}
 use native.Mathlib.Omega.{arith}
 use lib.ListN.{length, getD}
 use mathlib.Core.Bool.{Bool, true, not}
 use mathlib.Core.List.{List}
-use lib.Dec.{ltb, eqb}
+use lib.Dec.{eqb}
 use Rattle.lists.specs.Tests.{allBelow}
 use Rattle.rule.specs.Calls.{distinct}
 use Rattle.lists.proofs.TestLaws.{scan}

@@ -1,8 +1,8 @@
 -- `notice::write_notice` meets its contract. Assumes nothing.
-use mathlib.Core.Path.{_≡_, refl, sym, _∙_, ap}
-use Prim.Native.Nat.{ℕ, _≤_, _<_, _-_, _+_, _*_}
+use mathlib.Core.Path.{refl}
+use Prim.Native.Nat.{_+_, _*_}
 use native.Mathlib.Omega.{arith}
-use lib.ListN.{length, getD}
+use lib.ListN.{getD}
 use Rattle.lists.proofs.PartLaws.{part-length}
 use Rattle.rule.specs.Layout.{noticesAt}
 use Rattle.notice.proofs.NoticeLaws.{row-back}

@@ -1,8 +1,8 @@
 -- `notice::write_row` meets its contract. Assumes nothing.
-use mathlib.Core.Path.{_≡_, refl, sym, _∙_, ap}
-use Prim.Native.Nat.{ℕ, _≤_, _<_, _-_, _+_, _*_}
+use mathlib.Core.Path.{_∙_, ap}
+use Prim.Native.Nat.{_-_}
 use native.Mathlib.Omega.{arith}
-use lib.ListN.{length, getD}
+use lib.ListN.{length}
 use Rattle.lists.proofs.TableLaws.{length-zeros}
 use Rattle.notice.proofs.NoticeLaws.{Entered, entered-none, entered-more, entered-all}
 use borrow.Author.Needs.{needs}

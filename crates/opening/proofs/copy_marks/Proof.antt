@@ -1,11 +1,10 @@
 -- `opening::copy_marks` meets its contract: the marks of the baskets below k are copied. Assumes nothing.
-use mathlib.Core.Path.{_≡_, ap, _∙_}
-use Prim.Native.Nat.{ℕ, _≤_, _<_, _-_, _+_, _*_}
+use mathlib.Core.Path.{ap, _∙_}
+use Prim.Native.Nat.{_-_}
 use native.Mathlib.Omega.{arith}
-use lib.ListN.{length, getD}
+use lib.ListN.{length}
 use Rattle.opening.proofs.CellLaws.{copied-length}
 use Rattle.opening.proofs.OpenLaws.{Marked, marked-none, marked-more, marked-all, room-at, room-from, square-small}
-use borrow.Author.Needs.{needs}
 use Rattle.opening.proofs.copy_marks.Statement.{statement}
 use Rattle.opening.proofs.copy_marks.Tie as tie
 use Rattle.opening.proofs.copy_marks.Reads as reads

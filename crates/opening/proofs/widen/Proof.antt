@@ -1,8 +1,7 @@
 -- `opening::widen` meets its contract: the codes below i are cells. Assumes nothing.
-use mathlib.Core.Path.{_≡_, ap, _∙_}
-use Prim.Native.Nat.{ℕ, _≤_, _<_, _-_, _+_, _*_}
+use Prim.Native.Nat.{_-_}
 use native.Mathlib.Omega.{arith}
-use lib.ListN.{length, getD}
+use lib.ListN.{length}
 use Rattle.opening.proofs.OpenLaws.{Widened, widened-none, widened-more, widened-all}
 use borrow.Author.Needs.{needs}
 use Rattle.opening.proofs.widen.Statement.{statement}

@@ -1,6 +1,4 @@
 -- `opening::write_open` meets its contract. Assumes nothing.
-use mathlib.Core.Path.{_≡_, sym, ap, ap₂, _∙_}
-use Prim.Native.Nat.{ℕ, _≤_, _<_, _-_, _+_, _*_}
 use native.Mathlib.Omega.{arith}
 use lib.ListN.{length-set}
 use Rattle.opening.proofs.OpenLaws.{length-cleared, codes-room, terms-room, receipts-room, marks-room, length-all, all-written}

@@ -3,7 +3,6 @@ use mathlib.Core.Path.{_≡_, sym, _∙_, ap}
 use mathlib.Core.Bool.{Bool, _&&_}
 use Prim.Native.Nat.{ℕ, _+_, _-_, _*_}
 use native.Mathlib.Omega.{arith}
-use borrow.Author.Needs.{needs}
 use lib.Dec.{leb}
 use Rattle.ranges.specs.Ranges.{rowAtMost}
 use Rattle.ranges.proofs.ScanLaws.{Gathered, gathered-none, gathered-more, gathered-all, bits-below}

@@ -1,8 +1,4 @@
 -- `trade::trade_sound` meets its contract. Assumes nothing.
-use mathlib.Core.Path.{_≡_, refl, sym, _∙_, ap}
-use Prim.Native.Nat.{ℕ, _≤_, _<_, _-_, _+_, _*_}
-use native.Mathlib.Omega.{arith}
-use lib.ListN.{length, getD}
 use borrow.Author.Needs.{needs}
 use Rattle.rule.specs.Calls.{tradeChecks}
 use Rattle.rule.specs.Layout.{view}

@@ -1,8 +1,5 @@
 -- `trade::write_trade` meets its contract. Assumes nothing.
-use mathlib.Core.Path.{_≡_, refl, sym, _∙_, ap}
-use Prim.Native.Nat.{ℕ, _≤_, _<_, _-_, _+_, _*_}
 use native.Mathlib.Omega.{arith}
-use lib.ListN.{length, getD}
 use borrow.Author.Needs.{needs}
 use Rattle.trade.proofs.TradeLaws.{moved, taken}
 use Rattle.trade.proofs.write_trade.Statement.{statement}

@@ -1,12 +1,9 @@
 -- `allocation::cells::copy_rows` meets its contract: the rows below p are copied. Assumes nothing.
-use mathlib.Core.Path.{_≡_, ap, _∙_}
-use Prim.Native.Nat.{ℕ, _+_, _-_, _≤_}
+use mathlib.Core.Path.{ap, _∙_}
+use Prim.Native.Nat.{_-_}
 use native.Mathlib.Omega.{arith}
-use borrow.Author.Needs.{needs}
-use lib.ListN.{length, take, drop}
 use Rattle.lists.specs.Parts.{block}
 use Rattle.lists.proofs.PartLaws.{part-length}
-use Rattle.opening.specs.Cells.{Copies}
 use Rattle.opening.proofs.CellLaws.{Copied, copied-none, copied-more, copied-all, room-to, room-from}
 use Rattle.opening.proofs.cells.copy_rows.Statement.{statement}
 use Rattle.opening.proofs.cells.copy_rows.Tie as tie

@@ -1,6 +1,5 @@
 -- `records::booking::marked` meets its contract. Assumes nothing.
 use mathlib.Core.Path.{sym}
-use Prim.Native.Nat.{_-_}
 use borrow.Author.Tests.{lt-ltb, le-ltb}
 use Rattle.lists.proofs.TestLaws.{pick-yes, pick-no}
 use Rattle.records.proofs.booking.marked.Statement.{statement}

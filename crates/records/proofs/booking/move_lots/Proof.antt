@@ -1,5 +1,4 @@
 -- `records::booking::move_lots` meets its contract. Assumes nothing.
-use Prim.Native.Nat.{_-_}
 use borrow.Author.Needs.{needs}
 use Rattle.records.proofs.BookingLaws.{lots-moved}
 use Rattle.records.proofs.booking.move_lots.Statement.{statement}

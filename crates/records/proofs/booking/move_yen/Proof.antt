@@ -1,5 +1,4 @@
 -- `records::booking::move_yen` meets its contract. Assumes nothing.
-use Prim.Native.Nat.{_-_}
 use native.Mathlib.Omega.{arith}
 use lib.ListN.{getD, length-set}
 use borrow.Author.Needs.{needs}
