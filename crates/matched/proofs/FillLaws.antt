@@ -24,7 +24,8 @@ use Rattle.rows.specs.Rows.{Becomes, Addable}
 use Rattle.rows.proofs.RowLaws.{lent-size, lent-in, lent-out}
 use Rattle.records.proofs.BookingLaws.{where-is}
 use Rattle.stock.specs.Stock.{usableOf, Usable as RowUsable, Usables}
-use Rattle.matched.specs.Filled.{issuesIn, bookTerms, usableIn, UsableAsked, UsableLots, Fillable, filledIn, Usable, Used}
+use Rattle.orders.specs.Sizes.{issuesIn}
+use Rattle.matched.specs.Filled.{bookTerms, usableIn, UsableAsked, UsableLots, Fillable, filledIn, Usable, Used}
 
 -- ---- what may be used
 

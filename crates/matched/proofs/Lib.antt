@@ -1,4 +1,3 @@
 -- Laws that the proofs cite.
 pub mod PlanLaws
-pub mod OrderLaws
 pub mod FillLaws

@@ -10,7 +10,8 @@ use Rattle.rule.specs.Matching.{plan}
 use Rattle.rule.specs.Layout.{pairsAt, positionsAt, plus, minus}
 use Rattle.matching.specs.Plans.{Basket, Planned, pairMarks}
 use Rattle.matching.proofs.CallerLaws.{sound-basket, marks-of-book}
-use Rattle.matched.specs.Filled.{participantsIn, positionsIn, planIn, PlanRows}
+use Rattle.orders.specs.Sizes.{participantsIn}
+use Rattle.matched.specs.Filled.{positionsIn, planIn, PlanRows}
 
 module _ (b draw : List ℕ) (k : ℕ) (owed due cells : List ℕ) (h : PlanRows b draw k owed due cells) where
   abbrev at : ℕ

@@ -1,13 +1,11 @@
--- One match of a basket: what reading its rows, filling it and writing it ask and leave. Assumes nothing.
+-- One match of a basket: what planning, filling and writing it ask and leave. Assumes nothing.
 use mathlib.Core.Path.{_≡_}
-use mathlib.Core.Logic.{_≢_, _⊎_}
-use mathlib.Core.Bool.{Bool}
+use mathlib.Core.Logic.{_≢_}
 use mathlib.Core.List.{List, map}
-use Prim.Native.Nat.{ℕ, _+_, _-_, _*_, _≤_, _<_}
+use Prim.Native.Nat.{ℕ, _+_, _*_, _≤_, _<_}
 use lib.ListN.{length, getD, set, take}
 use lib.Dec.{eqb}
 use Rattle.lists.specs.Tables.{table, zeros}
-use Rattle.lists.specs.Order.{ranked}
 use Rattle.lists.specs.Parts.{block, grid, over}
 use Rattle.rule.specs.Value.{Terms}
 use Rattle.rule.specs.Matching.{Match, plan}
@@ -15,27 +13,12 @@ use Rattle.rule.specs.Filling.{worth, Filled, filled, forcedIssue}
 use Rattle.rule.specs.Layout.{bookLength, termsAt, pairsAt, positionsAt, noticesAt, plus, minus}
 use Rattle.rule.proofs.DrawLaws.{EachOnce}
 use Rattle.value.specs.Rated.{Rates, termsIn}
-use Rattle.ordering.specs.Ordered.{Ordered, orderKey}
+use Rattle.orders.specs.Sizes.{participantsIn, issuesIn, Sized}
 use Rattle.filling.specs.Rows.{Named}
-use Rattle.filling.specs.Match.{Idle}
 use Rattle.filling.specs.declared.Filling.{Filling}
 use Rattle.stock.specs.Stock.{usableOf}
 use Rattle.records.specs.Listed.{entryOf, linesFor, Listed}
 use Rattle.records.specs.Booked.{YenMoved, LotsMoved}
-
--- the day's sizes
-abbrev pub participantsIn : List ℕ → ℕ
-participantsIn b = getD b 0 0
-
-abbrev pub issuesIn : List ℕ → ℕ
-issuesIn b = getD b 1 0
-
--- the book has its length, and the day's sizes are in range
-pub record Sized (b : List ℕ) : Type 0 where
-  pub cells : length b ≡ bookLength
-  pub participants : participantsIn b ≤ 12
-  pub some : 1 ≤ issuesIn b
-  pub issues : issuesIn b ≤ 32
 
 -- ---- the plan of a basket
 
@@ -58,72 +41,6 @@ pub record PlanRows (b draw : List ℕ) (k : ℕ) (owed due cells : List ℕ) : 
   pub plannable : Plannable b draw k cells
   pub owing : length owed ≡ participantsIn b
   pub owned : length due ≡ participantsIn b
-
--- ---- a deliverer's order of issues
-
--- a place in the plan: at most 11 matches
-pub record Placed (j : ℕ) : Type 0 where
-  pub place : j < 11
-
--- match j follows one of the same deliverer and sort
-pub record Same (cells : List ℕ) (j : ℕ) : Type 0 where
-  pub second : 0 < j
-  pub deliverer : getD cells (4 * (j - 1)) 0 ≡ getD cells (4 * j) 0
-  pub sort : getD cells (4 * (j - 1) + 3) 0 ≡ getD cells (4 * j + 3) 0
-
--- participant d's notified lots of issue i
-abbrev pub notifiedIn : List ℕ → ℕ → ℕ → ℕ
-notifiedIn b d i = getD b (noticesAt + 32 * d + i) 0
-
--- participant d's row has its issues, larger notified lots first
-abbrev pub RankedAt : List ℕ → ℕ → List ℕ → Type 0
-RankedAt b d orders = block orders (32 * d) (issuesIn b) ≡ ranked (notifiedIn b d) (issuesIn b)
-
--- each participant's row is so ranked, unless its first cell names no issue
-pub record Orders (b orders : List ℕ) : Type 0 where
-  pub places : length orders ≡ 384
-  pub each : (d : ℕ) → d < 12 → getD orders (32 * d) 0 < 32 → RankedAt b d orders
-
--- such a row, and the notified lots
-pub record Rankable (notified row : List ℕ) : Type 0 where
-  pub some : 0 < length row
-  pub even : length notified ≡ length row
-  pub already : getD row 0 0 < 32 → row ≡ ranked (λ i. getD notified i 0) (length notified)
-
--- what participant d's issues are ranked by in a match; before are the lots used in earlier baskets
-abbrev pub keyIn : List ℕ → List ℕ → ℕ → Bool → ℕ → ℕ
-keyIn b before d preferential i = orderKey preferential (notifiedIn b d i) (getD before (32 * d + i) 0)
-
--- the order is that of match j, where `may` is what may be used of each issue
-abbrev pub OrderedAt : List ℕ → List ℕ → List ℕ → ℕ → (ℕ → ℕ) → List ℕ → ℕ → Type 0
-OrderedAt b before cells j may order count = Ordered (issuesIn b) (keyIn b before (getD cells (4 * j) 0) (eqb (getD cells (4 * j + 3) 0) 1)) may order count
-
-pub record Loadable (b before : List ℕ) (d : ℕ) (orders order : List ℕ) : Type 0 where
-  pub sized : Sized b
-  pub deliverer : d < 12
-  pub notified-most : (i : ℕ) → i < issuesIn b → notifiedIn b d i ≤ 200_000_000
-  pub earlier : length before ≡ 384
-  pub kept : Orders b orders
-  pub long : length order ≡ 32
-
-pub record Loaded (b before : List ℕ) (d : ℕ) (preferential : Bool) (usable orders order : List ℕ) (count : ℕ) : Type 0 where
-  pub ordered : Ordered (issuesIn b) (keyIn b before d preferential) (λ i. getD usable i 0) order count
-  pub kept : Orders b orders
-
--- match j's order is asked for. That of the match before lists so many issues: if any, it is match j's too where the two are of the same
--- deliverer and sort
-pub record OrderAsked (b before cells : List ℕ) (j : ℕ) (usable : List ℕ) (count : ℕ) (orders order : List ℕ) : Type 0 where
-  pub place : j < 11
-  pub amount : getD cells (4 * j + 2) 0 ≤ 10_000_000_000_000
-  pub loadable : Loadable b before (getD cells (4 * j) 0) orders order
-  pub last : 0 < count → Same cells j → OrderedAt b before cells j (λ i. getD usable i 0) order count
-
--- it is match j's, or filling does not go through it and it lists no issue
-pub record OrderFor (b before cells : List ℕ) (j : ℕ) (usable : List ℕ) (all : ℕ) (orders order : List ℕ) (count : ℕ) : Type 0 where
-  pub kept : Orders b orders
-  pub named : Named (issuesIn b) count order
-  pub fits : OrderedAt b before cells j (λ i. getD usable i 0) order count ⊎ Idle (getD b 2 0) all (getD cells (4 * j + 2) 0)
-  pub listed : 0 < count → OrderedAt b before cells j (λ i. getD usable i 0) order count
 
 -- ---- what may be used
 

@@ -13,7 +13,9 @@ use Rattle.filling.specs.Match.{FilledAs}
 use Rattle.filling.specs.declared.Filling.{Filling}
 use Rattle.matching.specs.Plans.{matchAt}
 use Rattle.ordering.specs.Ordered.{Ordered}
-use Rattle.matched.specs.Filled.{issuesIn, Same, Orders, keyIn, OrderedAt, OrderAsked, OrderFor, UsableAsked, UsableLots, Fillable, filledIn, Writable, Wrote}
+use Rattle.orders.specs.Sizes.{issuesIn}
+use Rattle.orders.specs.Orders.{Same, Orders, keyIn, OrderedAt, OrderAsked, OrderFor}
+use Rattle.matched.specs.Filled.{UsableAsked, UsableLots, Fillable, filledIn, Writable, Wrote}
 use Rattle.runs.specs.Running.{doneTo, doneAt, Running, Done, AllocateAsks}
 use Rattle.runs.proofs.DoneLaws.{done-begin, done-end}
 use Rattle.runs.proofs.ReadLaws.{issues-kept}

@@ -21,7 +21,8 @@ use Rattle.matching.specs.Plans.{matchAt, Planned}
 use Rattle.matching.proofs.CallerLaws.{signed-one-zero}
 use Rattle.rows.specs.Rows.{Becomes}
 use Rattle.stock.specs.Stock.{insideOf, Issues}
-use Rattle.matched.specs.Filled.{participantsIn, issuesIn, positionsIn, planIn, Plannable}
+use Rattle.orders.specs.Sizes.{participantsIn, issuesIn}
+use Rattle.matched.specs.Filled.{positionsIn, planIn, Plannable}
 use Rattle.runs.specs.Running.{doneTo, BookedTo, Done, BasketAsks, AllocateAsks}
 use Rattle.runs.proofs.ReadLaws.{sized-kept, participants-kept, issues-kept, terms-in-kept, plan-kept, nothing-covered}
 

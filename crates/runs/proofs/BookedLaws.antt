@@ -25,7 +25,7 @@ use Rattle.rule.proofs.LayoutLaws.{Shaped, Holds, view-shaped, view-signed, vie
 use Rattle.rule.proofs.RunLaws.{Runnable, Allocated, covered-from, covered-to}
 use Rattle.rule.proofs.RunLots.{lots-from-most, lots-to-most}
 use Rattle.records.specs.Booked.{positionAt, markAt, tallyOf, YenMoved, LotsMoved}
-use Rattle.matched.specs.Filled.{participantsIn, issuesIn}
+use Rattle.orders.specs.Sizes.{participantsIn, issuesIn}
 use Rattle.runs.specs.Running.{outOf, backTo, BookedTo}
 use Rattle.runs.proofs.DoneLaws.{Part, part-total}
 use Rattle.runs.proofs.SignLaws.{tally-out, tally-back, owed-less, due-less, marked-more}

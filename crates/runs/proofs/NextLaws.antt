@@ -35,7 +35,9 @@ use Rattle.ordering.proofs.OrderLaws.{ordered-moved}
 use Rattle.lists.proofs.FoldLaws.{every-map}
 use Rattle.lists.proofs.OrderLaws.{ranked-alike, ranked-below}
 use Rattle.stock.specs.Stock.{termsIn, insideOf, usableOf}
-use Rattle.matched.specs.Filled.{participantsIn, issuesIn, bookTerms, usableIn, keyIn, OrderedAt, OrderFor, UsableLots, filledIn}
+use Rattle.orders.specs.Sizes.{participantsIn, issuesIn}
+use Rattle.orders.specs.Orders.{keyIn, OrderedAt, OrderFor}
+use Rattle.matched.specs.Filled.{bookTerms, usableIn, UsableLots, filledIn}
 use Rattle.runs.specs.Running.{doneTo, doneIn, doneAt, Start, Running, Tables, Planning}
 use Rattle.runs.proofs.DoneLaws.{nextOf, done-next, Part, part-at, part-every}
 use Rattle.runs.proofs.ReadLaws.{terms-read, notices-read, runs-read, allocable-read, terms-are, low-kept, issues-kept, terms-kept, notices-kept}

@@ -28,7 +28,8 @@ use Rattle.matching.proofs.ListLaws.{block-block}
 use Rattle.value.specs.Rated.{termsIn as termsOfBlock}
 use Rattle.stock.specs.Stock.{termsIn, allocableIn}
 use Rattle.records.specs.Booked.{positionAt}
-use Rattle.matched.specs.Filled.{participantsIn, issuesIn, Sized, positionsIn, planIn, bookTerms}
+use Rattle.orders.specs.Sizes.{participantsIn, issuesIn, Sized}
+use Rattle.matched.specs.Filled.{positionsIn, planIn, bookTerms}
 use Rattle.runs.specs.Running.{doneTo, BookedTo}
 use Rattle.runs.proofs.DoneLaws.{to-more}
 use Rattle.runs.proofs.BookedLaws.{booked-none}

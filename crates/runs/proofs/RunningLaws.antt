@@ -36,8 +36,10 @@ use Rattle.ordering.proofs.OrderLaws.{ordered-moved}
 use Rattle.stock.specs.Stock.{termsIn, allocableIn, usableOf}
 use Rattle.records.specs.Listed.{entryOf, linesFor}
 use Rattle.records.specs.Booked.{YenMoved, LotsMoved}
-use Rattle.matched.specs.Filled.{participantsIn, issuesIn, bookTerms, Same, notifiedIn, Orders, OrderedAt, OrderAsked, OrderFor, UsableAsked, UsableLots, Fillable, filledIn, lotsWith, Writable, Wrote}
-use Rattle.matched.proofs.OrderLaws.{orders-moved}
+use Rattle.orders.specs.Sizes.{participantsIn, issuesIn}
+use Rattle.orders.specs.Orders.{Same, notifiedIn, Orders, OrderedAt, OrderAsked, OrderFor}
+use Rattle.matched.specs.Filled.{bookTerms, UsableAsked, UsableLots, Fillable, filledIn, lotsWith, Writable, Wrote}
+use Rattle.orders.proofs.OrderLaws.{orders-moved}
 use Rattle.runs.specs.Running.{doneAt, Start, Running, Tables, Planning}
 use Rattle.runs.proofs.DoneLaws.{nextOf, Part, part-total, part-length}
 use Rattle.runs.proofs.BookedLaws.{booked-more, more-yes, more-no}

@@ -8,7 +8,7 @@ use Rattle.lists.specs.Folds.{joined}
 use Rattle.lists.specs.Parts.{over}
 use Rattle.rule.specs.Run.{allocations, ran, matchList, lineList}
 use Rattle.rule.specs.Layout.{noticesAt, view, stored}
-use Rattle.matched.specs.Filled.{participantsIn, issuesIn}
+use Rattle.orders.specs.Sizes.{participantsIn, issuesIn}
 use Rattle.runs.specs.Running.{Start, Running, Tables}
 
 -- the seven baskets: a run may begin, and its tables are there

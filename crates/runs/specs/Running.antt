@@ -19,7 +19,9 @@ use Rattle.value.specs.Rated.{Rates}
 use Rattle.matching.specs.Plans.{Planned}
 use Rattle.stock.specs.Stock.{insideOf, Allocable}
 use Rattle.records.specs.Booked.{positionAt, markAt, tallyOf}
-use Rattle.matched.specs.Filled.{participantsIn, issuesIn, bookTerms, Orders}
+use Rattle.orders.specs.Sizes.{participantsIn, issuesIn}
+use Rattle.orders.specs.Orders.{Orders}
+use Rattle.matched.specs.Filled.{bookTerms}
 
 -- ---- the matches so far
 

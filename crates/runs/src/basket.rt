@@ -41,7 +41,7 @@ fn allocate(
             &*used,
             &mut usable,
         );
-        listed = matched::order_for(
+        listed = orders::order_for(
             &*book,
             before,
             cells,

@@ -1,5 +1,5 @@
 // A run on a sound book: the seven baskets, and what they leave.
-ghost use Rattle.matched.specs.Filled.{Sized};
+ghost use Rattle.orders.specs.Sizes.{Sized};
 ghost use Rattle.runs.specs.Running.{Start};
 ghost use Rattle.runs.specs.Ran.{BasketsAsk, BasketsDone, Cleared, Ran};
 use crate::basket;

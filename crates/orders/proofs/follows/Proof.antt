@@ -1,12 +1,12 @@
--- `matched::follows` meets its contract. Assumes nothing.
+-- `orders::follows` meets its contract. Assumes nothing.
 use mathlib.Core.Path.{refl, sym}
 use native.Mathlib.Omega.{arith}
 use borrow.Author.Needs.{needs}
 use mathlib.Core.Bool.{true}
 use borrow.Author.Tests.{eqb-true}
 use Rattle.lists.proofs.TestLaws.{both-ways}
-use Rattle.matched.proofs.follows.Statement.{statement}
-use Rattle.matched.proofs.follows.Tie as tie
+use Rattle.orders.proofs.follows.Statement.{statement}
+use Rattle.orders.proofs.follows.Tie as tie
 
 returns : tie.Need-returns
 returns c = λ e. both-ways true refl (sym e)

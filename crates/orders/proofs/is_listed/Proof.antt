@@ -1,11 +1,11 @@
--- `matched::is_listed` meets its contract. Assumes nothing.
+-- `orders::is_listed` meets its contract. Assumes nothing.
 use mathlib.Core.Path.{refl, sym}
 use mathlib.Core.Bool.{true}
 use native.Mathlib.Omega.{arith}
 use borrow.Author.Needs.{needs}
 use Rattle.lists.proofs.TestLaws.{both-ways}
-use Rattle.matched.proofs.is_listed.Statement.{statement}
-use Rattle.matched.proofs.is_listed.Tie as tie
+use Rattle.orders.proofs.is_listed.Statement.{statement}
+use Rattle.orders.proofs.is_listed.Tie as tie
 
 returns : tie.Need-returns
 returns c = λ e. both-ways true refl (sym e)

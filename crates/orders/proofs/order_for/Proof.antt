@@ -1,10 +1,10 @@
--- `matched::order_for` meets its contract. Assumes nothing.
+-- `orders::order_for` meets its contract. Assumes nothing.
 use mathlib.Core.Path.{refl}
 use borrow.Author.Needs.{needs}
 use borrow.Author.Tests.{not-true}
-use Rattle.matched.proofs.OrderLaws.{still-listed, not-asked, now-listed}
-use Rattle.matched.proofs.order_for.Statement.{statement}
-use Rattle.matched.proofs.order_for.Tie as tie
+use Rattle.orders.proofs.OrderLaws.{still-listed, not-asked, now-listed}
+use Rattle.orders.proofs.order_for.Statement.{statement}
+use Rattle.orders.proofs.order_for.Tie as tie
 
 is-listed-requires : tie.Need-is-listed-requires
 is-listed-requires c κs = search needs

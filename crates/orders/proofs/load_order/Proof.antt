@@ -1,8 +1,8 @@
--- `matched::load_order` meets its contract. Assumes nothing.
+-- `orders::load_order` meets its contract. Assumes nothing.
 use borrow.Author.Needs.{needs}
-use Rattle.matched.proofs.OrderLaws.{rank-asks, order-asks, all-loaded}
-use Rattle.matched.proofs.load_order.Statement.{statement}
-use Rattle.matched.proofs.load_order.Tie as tie
+use Rattle.orders.proofs.OrderLaws.{rank-asks, order-asks, all-loaded}
+use Rattle.orders.proofs.load_order.Statement.{statement}
+use Rattle.orders.proofs.load_order.Tie as tie
 
 shared-slice-read-issues : tie.Need-shared-slice-read-issues
 shared-slice-read-issues c = search needs

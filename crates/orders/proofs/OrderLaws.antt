@@ -26,7 +26,8 @@ use Rattle.ordering.specs.Ordered.{Orderable, Ordered, orderKey}
 use Rattle.ordering.proofs.OrderLaws.{ordered-moved}
 use Rattle.rows.specs.Rows.{Becomes}
 use Rattle.rows.proofs.RowLaws.{lent-size, lent-in, lent-out}
-use Rattle.matched.specs.Filled.{issuesIn, Same, notifiedIn, RankedAt, Orders, Rankable, keyIn, OrderedAt, Loadable, Loaded, OrderAsked, OrderFor}
+use Rattle.orders.specs.Sizes.{issuesIn}
+use Rattle.orders.specs.Orders.{Same, notifiedIn, RankedAt, Orders, Rankable, keyIn, OrderedAt, Loadable, Loaded, OrderAsked, OrderFor}
 
 -- ---- a row of a deliverer's issues, ranked
 

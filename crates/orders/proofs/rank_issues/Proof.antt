@@ -1,8 +1,8 @@
--- `matched::rank_issues` meets its contract. Assumes nothing.
+-- `orders::rank_issues` meets its contract. Assumes nothing.
 use borrow.Author.Needs.{needs}
-use Rattle.matched.proofs.OrderLaws.{row-ranked}
-use Rattle.matched.proofs.rank_issues.Statement.{statement}
-use Rattle.matched.proofs.rank_issues.Tie as tie
+use Rattle.orders.proofs.OrderLaws.{row-ranked}
+use Rattle.orders.proofs.rank_issues.Statement.{statement}
+use Rattle.orders.proofs.rank_issues.Tie as tie
 
 slice-read-if1 : tie.Need-slice-read-if1
 slice-read-if1 c = search needs

@@ -1,0 +1,3 @@
+-- What the contracts of the order cite besides the rule.
+pub mod Sizes
+pub mod Orders
