@@ -6,7 +6,7 @@ use crate::Book;
 use crate::answers;
 use crate::answers::Reading;
 use crate::codes;
-use crate::records;
+use crate::entries;
 use crate::words;
 use crate::words::Number;
 use rule::RunAnswer;
@@ -91,9 +91,9 @@ fn run_of(book: &mut Book, draw: &[u64]) {
             matches: n,
             lines: m,
         } => {
-            records::say(b"ran N N\n", &[n, m], book);
-            records::matches(&matches, n, book);
-            records::lines(&lines, m, book);
+            entries::say(b"ran N N\n", &[n, m], book);
+            entries::matches(&matches, n, book);
+            entries::lines(&lines, m, book);
         }
         RunAnswer::Refused(refusal) => answers::refused(refusal),
     }
@@ -124,14 +124,14 @@ fn closed(book: &Book, receipts: &[u64], pairs: &[u64]) {
     if issues == 0 {
         return;
     }
-    records::holdings(b"receipt N C N\n", receipts, issues, book);
-    records::pairs(b"pair B N N\n", pairs, participants, book);
+    entries::holdings(b"receipt N C N\n", receipts, issues, book);
+    entries::pairs(b"pair B N N\n", pairs, participants, book);
 }
 
 pub fn show_line(line: &[u8], book: &Book) -> Reading {
     if words::more(line, 1) > 0 {
         return Reading::WrongWord;
     }
-    records::show(book);
+    entries::show(book);
     Reading::Read
 }

@@ -5,7 +5,7 @@ mod calls;
 mod codes;
 mod given;
 mod lines;
-mod records;
+mod entries;
 mod sample;
 mod words;
 

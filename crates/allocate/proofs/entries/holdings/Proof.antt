@@ -1,10 +1,10 @@
--- `allocate::records::pairs` is safe and ends. Assumes nothing.
+-- `allocate::entries::holdings` is safe and ends. Assumes nothing.
 use Prim.Native.Nat.{_-_}
 use native.Mathlib.Omega.{arith}
 use lib.ListN.{length}
 use borrow.Author.Needs.{needs}
-use Rattle.allocate.proofs.records.pairs.Statement.{statement}
-use Rattle.allocate.proofs.records.pairs.Tie as tie
+use Rattle.allocate.proofs.entries.holdings.Statement.{statement}
+use Rattle.allocate.proofs.entries.holdings.Tie as tie
 
 abbrev Inv-loop : tie.InvT-loop
 Inv-loop pattern cells width book i₀ i = Unit {0}
@@ -21,17 +21,17 @@ mul-if1 c = omega arith
 shared-slice-read-if1 : tie.Need-shared-slice-read-if1 Inv-loop μ-loop
 shared-slice-read-if1 c = omega arith
 
-div-row : tie.Need-div-row Inv-loop μ-loop
-div-row c = omega arith
+div-participant : tie.Need-div-participant Inv-loop μ-loop
+div-participant c = omega arith
 
-div-basket : tie.Need-div-basket Inv-loop μ-loop
-div-basket c = omega arith
+rem-issue : tie.Need-rem-issue Inv-loop μ-loop
+rem-issue c = omega arith
 
-rem-deliverer : tie.Need-rem-deliverer Inv-loop μ-loop
-rem-deliverer c = omega arith
+mul-t12 : tie.Need-mul-t12 Inv-loop μ-loop
+mul-t12 c = omega arith
 
-rem-receiver : tie.Need-rem-receiver Inv-loop μ-loop
-rem-receiver c = omega arith
+shared-slice-read-t16 : tie.Need-shared-slice-read-t16 Inv-loop μ-loop
+shared-slice-read-t16 c = omega arith
 
 slice-aggregate-say : tie.Need-slice-aggregate-say Inv-loop μ-loop
 slice-aggregate-say c = search needs
@@ -51,8 +51,8 @@ loop-again c = tt
 returns : tie.Need-returns Inv-loop μ-loop
 returns c = search needs
 
-pub pairs-spec : {M : Type 1} → statement M
-pairs-spec =
+pub holdings-spec : {M : Type 1} → statement M
+holdings-spec =
     tie.close
     (tie.spec
     Inv-loop
@@ -60,10 +60,10 @@ pairs-spec =
     loop-holds
     mul-if1
     shared-slice-read-if1
-    div-row
-    div-basket
-    rem-deliverer
-    rem-receiver
+    div-participant
+    rem-issue
+    mul-t12
+    shared-slice-read-t16
     slice-aggregate-say
     say-requires
     add-i

@@ -1,10 +1,10 @@
--- `allocate::records::say` is safe and ends. Assumes nothing.
+-- `allocate::entries::say` is safe and ends. Assumes nothing.
 use Prim.Native.Nat.{_-_}
 use native.Mathlib.Omega.{arith}
 use lib.ListN.{length}
 use borrow.Author.Needs.{needs}
-use Rattle.allocate.proofs.records.say.Statement.{statement}
-use Rattle.allocate.proofs.records.say.Tie as tie
+use Rattle.allocate.proofs.entries.say.Statement.{statement}
+use Rattle.allocate.proofs.entries.say.Tie as tie
 
 abbrev Inv-loop : tie.InvT-loop
 Inv-loop pattern cells book next₀ i₀ next i = Unit {0}

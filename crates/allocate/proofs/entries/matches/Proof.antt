@@ -1,9 +1,9 @@
--- `allocate::records::matches` is safe and ends. Invariant: the match is one of 77. Assumes nothing.
+-- `allocate::entries::matches` is safe and ends. Invariant: the match is one of 77. Assumes nothing.
 use Prim.Native.Nat.{_≤_, _-_}
 use native.Mathlib.Omega.{arith}
 use borrow.Author.Needs.{needs}
-use Rattle.allocate.proofs.records.matches.Statement.{statement}
-use Rattle.allocate.proofs.records.matches.Tie as tie
+use Rattle.allocate.proofs.entries.matches.Statement.{statement}
+use Rattle.allocate.proofs.entries.matches.Tie as tie
 
 abbrev Inv-loop : tie.InvT-loop
 Inv-loop cells count book n₀ n = n ≤ 77

@@ -1,9 +1,9 @@
--- `allocate::records::positions` is safe and ends. Invariant: the position is one of 84. Assumes nothing.
+-- `allocate::entries::positions` is safe and ends. Invariant: the position is one of 84. Assumes nothing.
 use Prim.Native.Nat.{_≤_, _-_}
 use native.Mathlib.Omega.{arith}
 use borrow.Author.Needs.{needs}
-use Rattle.allocate.proofs.records.positions.Statement.{statement}
-use Rattle.allocate.proofs.records.positions.Tie as tie
+use Rattle.allocate.proofs.entries.positions.Statement.{statement}
+use Rattle.allocate.proofs.entries.positions.Tie as tie
 
 abbrev Inv-loop : tie.InvT-loop
 Inv-loop book i₀ t6 i = i ≤ 84

@@ -1,9 +1,9 @@
--- `allocate::records::lines` is safe and ends. Invariant: the line is one of 2,464. Assumes nothing.
+-- `allocate::entries::lines` is safe and ends. Invariant: the line is one of 2,464. Assumes nothing.
 use Prim.Native.Nat.{_≤_, _-_}
 use native.Mathlib.Omega.{arith}
 use borrow.Author.Needs.{needs}
-use Rattle.allocate.proofs.records.lines.Statement.{statement}
-use Rattle.allocate.proofs.records.lines.Tie as tie
+use Rattle.allocate.proofs.entries.lines.Statement.{statement}
+use Rattle.allocate.proofs.entries.lines.Tie as tie
 
 abbrev Inv-loop : tie.InvT-loop
 Inv-loop cells count book n₀ t6 n = n ≤ 2464
