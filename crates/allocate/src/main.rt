@@ -3,9 +3,9 @@
 mod answers;
 mod calls;
 mod codes;
+mod entries;
 mod given;
 mod lines;
-mod entries;
 mod sample;
 mod words;
 
