@@ -5,7 +5,7 @@ cd "$(dirname "$0")"
 . ./needs.sh
 need cargo cargo
 need valgrind valgrind
-[ -f ../target/staticlib/libc_api.a ] || (cd .. && rt staticlib c_api)
+said=$(cd .. && rt staticlib c_api 2>&1) || { echo "$said" >&2; exit 1; }
 cargo build --offline --release --quiet --bin bench
 bench=target/release/bench
 

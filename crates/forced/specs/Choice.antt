@@ -2,7 +2,7 @@
 use mathlib.Core.Path.{_≡_}
 use mathlib.Core.Bool.{Bool, _&&_}
 use mathlib.Core.List.{List, _∷_}
-use Prim.Native.Nat.{ℕ, _*_, _≤_, _<_, min}
+use Prim.Native.Nat.{ℕ, _+_, _*_, _≤_, _<_, min}
 use lib.ListN.{length, getD}
 use lib.Dec.{eqb}
 use Rattle.lists.specs.Folds.{keep, Every}
@@ -13,7 +13,11 @@ use Rattle.rule.specs.Filling.{orElse, fifthLargest}
 use Rattle.forced.specs.declared.Best.{Best}
 use Rattle.forced.specs.declared.Fifth.{Fifth}
 
--- the terms of the day's issues, six cells to an issue
+-- the terms of issue i are there, six cells to an issue
+pub record Termed (terms : List ℕ) (i : ℕ) : Type 0 where
+  pub there : 6 * i + 6 ≤ length terms
+
+-- the terms of the day's issues
 pub record Listed (issues : ℕ) (terms : List ℕ) : Type 0 where
   pub issues-most : issues ≤ 32
   pub cells : 6 * issues ≤ length terms

@@ -1,15 +1,15 @@
 // The forced issue of a match in run 3.
 ghost use mathlib.Core.Path.{_≡_};
 ghost use mathlib.Core.List.{List, _∷_};
-ghost use Prim.Native.Nat.{ℕ, _+_, _*_, _≤_, _<_};
-ghost use lib.ListN.{length, getD, take};
+ghost use Prim.Native.Nat.{ℕ, _<_};
+ghost use lib.ListN.{getD, take};
 ghost use lib.Dec.{eqb};
 ghost use Rattle.lists.specs.Tests.{pick};
 ghost use Rattle.rule.specs.Value.{Terms};
 ghost use Rattle.rule.specs.Filling.{eligible, forcedIssue};
 ghost use Rattle.value.specs.Rated.{termsIn};
 ghost use Rattle.baskets.specs.Kinds.{KindsOf};
-ghost use Rattle.forced.specs.Choice.{Listed, Notified, isEligible, tenYear, fifthAmong, BestOf, FifthOf};
+ghost use Rattle.forced.specs.Choice.{Termed, Listed, Notified, isEligible, tenYear, fifthAmong, BestOf, FifthOf};
 use rule::Lots;
 
 // Going down the issues: the one with the most notified lots so far; none while these are 0.
@@ -27,7 +27,7 @@ struct Fifth {
 // "the unmarked issue of this basket with the deliverer's most notified lots .. (ties: smaller ISIN)": the issue met is smaller
 // than those before. Its terms are read only where its lots are the most so far.
 fn with_notified(terms: &[u64], kinds: &[u8; 7], i: usize, notified: Lots, best: Best) -> Best
-    requires { ⌜ 6 * i + 6 ≤ length (now terms) ⌝ }
+    requires { ⌜ Termed (now terms) i ⌝ }
     ensures { λ r. ⌜ ((issues k : ℕ) → (n : ℕ → ℕ) → (l : List ℕ) → i < issues → KindsOf k (now (kinds .entry)) → notified .0 ≡ n i → BestOf n l best → BestOf n (pick (isEligible k (termsIn issues (now (terms .entry))) i) (i ∷ l) l) r) ⌝ }
 {
     if notified.0 == 0 {

@@ -1,5 +1,4 @@
 // One match of a basket: what it may use, its filling, and what is written of it. Matches stand in cells, four to each.
-ghost use mathlib.Core.Path.{_≡_};
 ghost use Rattle.filling.specs.Match.{FilledAs};
 ghost use Rattle.matching.specs.Plans.{Planned};
 ghost use Rattle.matched.specs.Filled.{Plannable, PlanRows, planIn, UsableAsked, UsableLots, Fillable, filledIn, Usable, Used, Writable, Wrote};

@@ -1,7 +1,6 @@
 // Opening a day: "sizes first (participants, issues), then two parallel arrays, codes and terms .. scheduled receipts .. and pair marks".
 ghost use mathlib.Core.Path.{_≡_};
-ghost use Prim.Native.Nat.{_+_, _*_, _<_};
-ghost use lib.ListN.{length};
+ghost use Prim.Native.Nat.{_*_, _<_};
 ghost use Rattle.lists.specs.Parts.{over};
 ghost use Rattle.rule.specs.Layout.{openOf};
 ghost use Rattle.rule.specs.Answers.{told};
