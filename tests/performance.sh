@@ -5,7 +5,7 @@ cd "$(dirname "$0")"
 . ./needs.sh
 need cargo cargo
 need valgrind valgrind
-said=$(cd .. && rt staticlib c_api 2>&1) || { echo "$said" >&2; exit 1; }
+archive
 cargo build --offline --release --quiet --bin bench
 bench=target/release/bench
 

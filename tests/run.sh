@@ -9,7 +9,7 @@ need cargo cargo
 need valgrind valgrind
 seed=${SEED:-1}
 
-said=$(cd .. && rt staticlib c_api 2>&1) || { echo "$said" >&2; exit 1; }
+archive
 gcc -std=c11 -O2 -Wall -Wextra -Wpedantic -Werror -I ../include c/day.c ../target/staticlib/libc_api.a -o ../target/day
 ../target/day
 
@@ -25,6 +25,7 @@ echo "under valgrind:"
 valgrind --quiet --error-exitcode=1 ../target/day
 valgrind --quiet --error-exitcode=1 $built/random_memory "$((seed + 1))" 20000
 $built/soak "$seed" 250
+./performance.sh
 ended=0
 wait "$days" || ended=$?
 cat ../target/random_days

@@ -51,17 +51,6 @@ pub struct Outcome {
 }
 
 impl Call {
-    /// Where the check table has it.
-    pub fn place(&self) -> &'static str {
-        match self {
-            Call::Open(_) => "open",
-            Call::Trade { .. } => "trade",
-            Call::Notice { .. } => "notice",
-            Call::Run { .. } => "run",
-            Call::Close { .. } => "close",
-        }
-    }
-
     /// The two lists that are lent, as they are before the call.
     pub fn lent(&self) -> [Vec<u64>; 2] {
         match self {

@@ -1,30 +1,19 @@
 -- An issue of which nothing may be used takes nothing in its turn, so it may be left out of the order. Assumes nothing.
-use mathlib.Core.Path.{_≡_, refl, sym, ap, _∙_}
+use mathlib.Core.Path.{_≡_, sym, ap, _∙_}
 use Prim.Native.Nat.{ℕ, zero, suc, _-_, _*_, _/_, min, max}
 use native.Mathlib.Nat.{not-suc-le-zero}
 use native.Mathlib.Omega.{arith}
 use mathlib.Core.Bool.{Bool, true, false}
-use mathlib.Core.List.{List, [], _∷_}
+use mathlib.Core.List.{List, []}
 use lib.ListN.{length, getD}
 use lib.Dec.{leb}
 use Rattle.lists.specs.Tests.{pick}
-use Rattle.lists.specs.Folds.{foldl, keep, Every}
-use Rattle.lists.proofs.FoldLaws.{fold-kept, every-all, every-map}
+use Rattle.lists.specs.Folds.{keep, Every}
+use Rattle.lists.proofs.FoldLaws.{fold-kept, fold-keep, every-all, every-map}
 use Rattle.lists.proofs.TableLaws.{getD-zeros, set-kept}
 use Rattle.rule.specs.Value.{Terms, noTerms, fewest, most}
 use Rattle.rule.specs.Filling.{worth, Taken, nothing, lotsOf, others, become, takeUpTo, walk, fillPreferential, unit, target, takeUnits, firstPass, withRemainder, secondPass, fillDrawn, fill, covered, plain, cover, force, carry, filled}
 use Rattle.rule.proofs.FillingLaws.{become-same}
-
--- a fold over what is kept, where an entry that is not kept changes nothing
-fold-keep : {A B : Type 0} (f : B → A → B) (P : B → Type 0) (t : A → Bool) → ((s : B) (x : A) → P s → P (f s x))
-    → (xs : List A) → Every (λ x. t x ≡ false → (s : B) → P s → f s x ≡ s) xs → (s : B) → P s → foldl f s (keep t xs) ≡ foldl f s xs
-fold-keep f P t kept [] h s p = refl
-fold-keep {A} {B} f P t kept (x ∷ xs) h s p = go (λ s p. fold-keep f P t kept xs (h .1) s p) (t x) refl
-  where
-    go : ((s : B) → P s → foldl f s (keep t xs) ≡ foldl f s xs) → (b : Bool) → t x ≡ b
-        → foldl f s (pick b (x ∷ keep t xs) (keep t xs)) ≡ foldl f (f s x) xs
-    go others true e = others (f s x) (kept s x p)
-    go others false e = others s p ∙ ap (λ (r : B). foldl f r xs) (sym (h .0 e s p))
 
 module _ (ts : List Terms) (usable : List ℕ) (live : ℕ → Bool) where
   -- what is not kept has nothing that may be used

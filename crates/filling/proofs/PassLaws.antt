@@ -1,24 +1,23 @@
 -- The passes of a drawn match, by number, with what stands in each: the code's turn is the rule's step, and where the amount is
 -- reached the rest of this pass and the later ones change nothing. Assumes nothing.
-use mathlib.Core.Path.{_≡_, refl, sym, ap, _∙_}
+use mathlib.Core.Path.{_≡_, refl, _∙_}
 use mathlib.Core.Logic.{_≢_}
 use Prim.Native.Nat.{ℕ, zero, suc, _+_, _-_, _*_, _/_, _≤_, _<_, min, max}
 use native.Mathlib.Nat.{le-refl, le-trans, not-suc-le-zero}
 use native.Mathlib.Decide.{decLe}
 use native.Mathlib.Omega.{arith}
 use mathlib.Core.List.{List, [], _∷_}
-use lib.ListN.{length, getD, take, drop, take-append-drop}
+use lib.ListN.{length, getD, take, drop}
 use lib.Seq.{getD-set-other}
 use Rattle.lists.specs.Tables.{zeros}
 use Rattle.lists.specs.Folds.{foldl, Every}
-use Rattle.lists.proofs.FoldLaws.{foldl-append}
 use Rattle.lists.proofs.TableLaws.{length-table, getD-zeros, set-kept}
 use Rattle.rule.specs.Value.{Terms, noTerms, value, fewest, most}
 use Rattle.rule.specs.Filling.{worth, Taken, nothing, lotsOf, others, become, takeUpTo, walk, fillPreferential, unit, target, takeUnits, firstPass, withRemainder, secondPass, fillDrawn}
 use Rattle.rule.proofs.ValueLaws.{value-strict, most-keeps, most-greatest}
 use Rattle.rule.proofs.FillingLaws.{Priced, Good, Units, apart, worth-zeros, become-same, walk-good, walk-idle, pass-good}
 use Rattle.turns.specs.Turns.{besides, boundOf, nextOf, upTo, wholeUnits}
-use Rattle.lists.proofs.FoldLaws.{every-take, every-drop}
+use Rattle.lists.proofs.FoldLaws.{foldl-split, every-take, every-drop}
 
 -- the step of a pass, and what the match has where the pass begins
 abbrev pub step : List Terms → List ℕ → List ℕ → ℕ → ℕ → Taken → ℕ → Taken
@@ -57,10 +56,6 @@ fold-other : (f : Taken → ℕ → Taken) → ((s : Taken) (i j : ℕ) → j �
     → (xs : List ℕ) (j : ℕ) → Every (λ i. j ≢ i) xs → (s : Taken) → lotsOf (foldl f s xs) j ≡ lotsOf s j
 fold-other f other [] j q s = refl
 fold-other f other (i ∷ is) j q s = fold-other f other is j (q .1) (f s i) ∙ other s i j (q .0)
-
--- a fold in two parts: for crate lists
-foldl-split : {A B : Type 0} (f : B → A → B) (xs : List A) (k : ℕ) (s : B) → foldl f s xs ≡ foldl f (foldl f s (take k xs)) (drop k xs)
-foldl-split f xs k s = ap (foldl f s) (sym (take-append-drop k xs)) ∙ foldl-append f (take k xs) (drop k xs) s
 
 module _ (ts : List Terms) (priced : Priced ts) (usable : List ℕ) (order : List ℕ) (amount : ℕ) where
   abbrev inside : List ℕ → Type 0

@@ -18,6 +18,7 @@ fn run_baskets(
     ensures { λ r. ⌜ BasketsDone (now (book .entry)) (now (draw .entry)) (now (matches .entry)) (now (lines .entry)) (now (book .exit)) (now (matches .exit)) (now (lines .exit)) (r .matches) (r .lines) ⌝ }
 {
     let mut used = [0u64; 384];
+    // no row of issues is ranked yet
     let mut orders = [32u64; 384];
     let mut done = Counts {
         matches: 0,

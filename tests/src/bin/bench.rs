@@ -110,30 +110,51 @@ fn run_case(name: &'static str, worst: Worst) -> Case {
     Case { name, book, call }
 }
 
-fn cases() -> Vec<Case> {
+/// The cases by name, each after the call that it makes.
+const CASES: [(&str, &str); 10] = [
+    ("run", "run, 6 deliverers, 77 drawn"),
+    ("run", "run, 11 deliverers, 77 drawn"),
+    ("run", "run, 6 deliverers, 77 preferential"),
+    ("run", "run 2, all short"),
+    ("run", "run 3, all forced"),
+    ("trade", "trade"),
+    ("notice", "notice of 32 issues"),
+    ("open", "open"),
+    ("close", "close"),
+    ("trade", "soundness"),
+];
+
+fn case(name: &'static str) -> Case {
     // whole units have no remainder, so that the second pass goes over every issue for nothing and the third has to end the match
     let ample = |deliverers, paired| Worst { deliverers, paired, kinds: EVERY, most_lots: 3_000_000, step: 100_000, runs_before: 0 };
     let scarce = |runs_before| Worst { deliverers: 6, paired: false, kinds: OWN, most_lots: 150_000, step: 1, runs_before };
-    let mut cases = vec![
-        run_case("run, 6 deliverers, 77 drawn", ample(6, false)),
-        run_case("run, 11 deliverers, 77 drawn", ample(11, false)),
-        run_case("run, 6 deliverers, 77 preferential", ample(6, true)),
-        run_case("run 2, all short", scarce(1)),
-        run_case("run 3, all forced", scarce(2)),
-    ];
+    match name {
+        "run, 6 deliverers, 77 drawn" => run_case(name, ample(6, false)),
+        "run, 11 deliverers, 77 drawn" => run_case(name, ample(11, false)),
+        "run, 6 deliverers, 77 preferential" => run_case(name, ample(6, true)),
+        "run 2, all short" => run_case(name, scarce(1)),
+        "run 3, all forced" => run_case(name, scarce(2)),
+        _ => other_case(name, ample(6, true)),
+    }
+}
+
+fn other_case(name: &'static str, day: Worst) -> Case {
     let r = &mut Random::new(2);
-    let (opening, book) = before_run(r, &ample(6, true));
+    let (opening, mut book) = before_run(r, &day);
     let all: Vec<u64> = (0..BONDS).collect();
-    let notice = Call::Notice { participant: 5, issues: all.clone(), lots: all };
-    let mut closed = book.clone();
-    (0..3).for_each(|_| accepted(&sample::run(r, &opening), &mut closed));
-    cases.push(Case { name: "trade", book: book.clone(), call: Call::Trade { seller: 0, buyer: 11, basket: 6, yen: 1_000_000 } });
-    cases.push(Case { name: "notice of 32 issues", book: book.clone(), call: notice });
-    cases.push(Case { name: "open", book: book.clone(), call: Call::Open(opening.clone()) });
-    cases.push(Case { name: "close", book: closed, call: sample::close(&opening) });
-    // the first check after soundness refuses
-    cases.push(Case { name: "soundness", book, call: Call::Trade { seller: PEOPLE, buyer: 0, basket: 0, yen: 1 } });
-    cases
+    let call = match name {
+        "trade" => Call::Trade { seller: 0, buyer: 11, basket: 6, yen: 1_000_000 },
+        "notice of 32 issues" => Call::Notice { participant: 5, issues: all.clone(), lots: all },
+        "open" => Call::Open(opening),
+        "close" => {
+            (0..3).for_each(|_| accepted(&sample::run(r, &opening), &mut book));
+            sample::close(&opening)
+        }
+        // the first check after soundness refuses
+        "soundness" => Call::Trade { seller: PEOPLE, buyer: 0, basket: 0, yen: 1 },
+        _ => panic!("no case {name}"),
+    };
+    Case { name, book, call }
 }
 
 /// Nanoseconds of one call, the book and its lists lent beforehand.
@@ -171,14 +192,14 @@ fn main() {
     match words.iter().map(String::as_str).collect::<Vec<_>>()[..] {
         [] => {
             println!("| Call | Library, ns | Fast reference, ns | Ratio |\n|---|---|---|---|");
-            for case in cases() {
+            for case in CASES.map(|(_, name)| case(name)) {
                 let [library, fast] = medians(&case);
                 println!("| {} | {library} | {fast} | {:.2} |", case.name, library as f64 / fast as f64);
             }
         }
-        ["names"] => cases().iter().for_each(|case| println!("{}:{}", case.call.place(), case.name)),
+        ["names"] => CASES.iter().for_each(|(call, name)| println!("{call}:{name}")),
         [name, side] => {
-            let mut case = cases().into_iter().find(|case| case.name == name).expect("a case");
+            let mut case = case(CASES.iter().find(|known| known.1 == name).expect("a case").1);
             let side = SIDES[["library", "fast"].iter().position(|&word| word == side).expect("library or fast")];
             case.call.make(side, &mut case.book, &mut case.call.lent());
         }
