@@ -11,7 +11,7 @@ use lib.Seq.{getD-set-same, getD-set-other}
 use borrow.Author.Count.{below-more}
 use Rattle.lists.specs.Parts.{over}
 use Rattle.lists.proofs.PartLaws.{part-length, part-back, length-over, over-in, over-out}
-use Rattle.rows.specs.Rows.{Becomes, Loaded}
+use Rattle.rows.specs.Rows.{Becomes}
 
 -- row₀ of which the cells below i are changed
 pub record Changed (P : ℕ → ℕ → Type 0) (row₀ row : List ℕ) (i : ℕ) : Type 0 where
@@ -72,8 +72,3 @@ module _ (P : ℕ → ℕ → Type 0) (xs : List ℕ) (a n : ℕ) (part : List �
 
   pub lent-out : (j : ℕ) → (j < a) ⊎ (a + n ≤ j) → getD back j 0 ≡ getD xs j 0
   lent-out j h = ap (λ (l : List ℕ). getD l j 0) same ∙ over-out xs part a room j (subst (λ (k : ℕ). (j < a) ⊎ (a + k ≤ j)) (sym size) h)
-
--- ---- the first cells of a row of 32, loaded from a source
-
-pub loaded : {row₀ row : List ℕ} {n i : ℕ} {source : List ℕ} {from : ℕ} → length row₀ ≡ 32 → n ≤ i → Changed (λ j c. c ≡ getD source (from + j) 0) row₀ row i → Loaded row n source from
-loaded h l w = record { wide = w .size ∙ h; each = λ j k. w .cells j (omega arith) }

@@ -9,20 +9,6 @@ pub record Becomes (P : ℕ → ℕ → Type 0) (entry exit : List ℕ) : Type 0
   pub size : length exit ≡ length entry
   pub cells : (i : ℕ) → i < length entry → P i (getD exit i 0)
 
--- a row of 32 cells, and as many as are to be written in the source from a place on
-pub record Loads (row : List ℕ) (n : ℕ) (source : List ℕ) (from : ℕ) : Type 0 where
-  pub wide : length row ≡ 32
-  pub few : n ≤ 32
-  pub room : from + n ≤ length source
-
-pub record Loaded (row : List ℕ) (n : ℕ) (source : List ℕ) (from : ℕ) : Type 0 where
-  pub wide : length row ≡ 32
-  pub each : (i : ℕ) → i < n → getD row i 0 ≡ getD source (from + i) 0
-
--- no more cells than a row of 32 has
-pub record Narrow (cells : List ℕ) : Type 0 where
-  pub few : length cells ≤ 32
-
 -- there are lots for each cell of the row
 pub record Alike (row lots : List ℕ) : Type 0 where
   pub room : length row ≤ length lots

@@ -5,28 +5,8 @@ ghost use Prim.Native.Nat.{_+_};
 ghost use lib.ListN.{length, getD};
 ghost use Rattle.lists.specs.Parts.{block, Fits};
 ghost use Rattle.rule.specs.Layout.{plus, minus};
-ghost use Rattle.rows.specs.Rows.{Becomes, Loads, Loaded, Narrow, Alike, Addable, afterDelivery, afterReceipt};
+ghost use Rattle.rows.specs.Rows.{Becomes, Alike, Addable, afterDelivery, afterReceipt};
 use book::sound;
-
-// The first n cells of a row become those of the source from a place on.
-pub fn load(row: &mut [u64; 32], n: usize, source: &[u64], from: usize)
-    requires { ⌜ Loads (now row) n (now source) from ⌝ }
-    ensures { λ _. ⌜ Loaded (now (row .exit)) n (now (source .entry)) from ⌝ }
-{
-    for i in 0..n {
-        row[i] = source[from + i];
-    }
-}
-
-// The cells become those of a row.
-pub fn store(cells: &mut [u64], row: &[u64; 32])
-    requires { ⌜ Narrow (now cells) ⌝ }
-    ensures { λ _. ⌜ Becomes (λ i c. c ≡ getD (now (row .entry)) i 0) (now (cells .entry)) (now (cells .exit)) ⌝ }
-{
-    for i in 0..cells.len() {
-        cells[i] = row[i];
-    }
-}
 
 // The cells become what is owed by the source's from a place on: "where positive, else 0".
 pub fn copy_owed(cells: &mut [u64], source: &[u64], from: usize)
