@@ -7,12 +7,12 @@ use native.Mathlib.Omega.{arith}
 use borrow.Author.Needs.{needs}
 use borrow.Rule.Slice.PartMut.{putMid}
 use mathlib.Core.List.{List, [], _∷_, _++_, map, append-nil}
-use lib.ListN.{length, getD, take, drop, length-append, length-map, take-append-drop}
+use lib.ListN.{length, getD, take, drop, length-append, length-map}
 use lib.Seq.{take-all, take-suc}
 use Rattle.lists.specs.Tables.{row}
 use Rattle.lists.specs.Folds.{joined}
 use Rattle.lists.specs.Parts.{block, grid, over}
-use Rattle.lists.proofs.AppendLaws.{joined-append, over-more}
+use Rattle.lists.proofs.AppendLaws.{joined-append, over-none, over-more}
 use Rattle.lists.proofs.TableLaws.{length-table, getD-table, getD-map}
 use Rattle.lists.proofs.PartLaws.{part-length, part-back, length-over, Shape, grid-shape}
 use Rattle.rule.specs.Calls.{Reply, accepted, refused, closeChecks, tomorrowReceipts, tomorrowPairs}
@@ -50,15 +50,7 @@ pub record Filled (b : List ℕ) (at n w : ℕ) (rows : List (List ℕ)) (from s
 
 module _ (b : List ℕ) (at n w : ℕ) (rows : List (List ℕ)) (from stride : ℕ) (s : Shape rows n w) (room : at + w * n ≤ length b) where
   pub filled-none : Filled b at n w rows from stride b 0 at from
-  filled-none =
-      let z : at ≡ at + 0 = omega arith in
-      record {
-        here = omega arith;
-        place = omega (arith, mul-zero w);
-        origin = omega (arith, mul-zero stride);
-        size = refl;
-        cells = sym (take-append-drop at b) ∙ ap (λ (k : ℕ). take at b ++ drop k b) z;
-      }
+  filled-none = record { here = omega arith; place = omega (arith, mul-zero w); origin = omega (arith, mul-zero stride); size = refl; cells = sym (over-none b at) }
 
   module _ {c : List ℕ} {p to o : ℕ} (h : Filled b at n w rows from stride c p to o) (l : p < n) where
     -- the next row has its room on both sides

@@ -1,19 +1,20 @@
 -- Laws of lists that are put together: appended, joined, written over one after the other. Assumes nothing.
 use mathlib.Core.Path.{_≡_, refl, sym, ap, ap₂, _∙_}
 use Prim.Native.Nat.{ℕ, zero, suc, _+_, _*_, _≤_, _<_}
-use native.Mathlib.Nat.{mul-suc, mul-zero}
+use native.Mathlib.Nat.{mul-le-mul-left, mul-suc, mul-zero, mul-comm, add-zero, le-refl}
 use native.Mathlib.Omega.{arith}
 use native.Mathlib.Numerals.{add-one}
 use mathlib.Core.Bool.{Bool, true, false}
 use mathlib.Core.List.{List, [], _∷_, _++_, map, append-assoc}
-use lib.ListN.{length, set, take, drop, length-append}
-use lib.Seq.{take-append-seam, drop-append-add, drop-drop, length-take-le}
+use lib.ListN.{length, set, take, drop, length-append, take-append-drop}
+use lib.Seq.{take-append-seam, drop-append-add, drop-drop, length-take-le, take-all, take-add}
 use Rattle.lists.specs.Tests.{pick}
 use Rattle.lists.specs.Tables.{upTo}
 use Rattle.lists.specs.Folds.{keep, joined, Every}
-use Rattle.lists.specs.Parts.{over}
+use Rattle.lists.specs.Parts.{block, grid, over, rowsAt, written}
 use Rattle.lists.proofs.FoldLaws.{from-more}
-use Rattle.lists.proofs.PartLaws.{length-over}
+use Rattle.lists.proofs.TableLaws.{length-table, getD-table}
+use Rattle.lists.proofs.PartLaws.{length-block, length-over, written-more}
 
 pub map-append : {A B : Type 0} (f : A → B) (xs ys : List A) → map f (xs ++ ys) ≡ map f xs ++ map f ys
 map-append f [] ys = refl
@@ -40,6 +41,9 @@ pub upTo-more : (n : ℕ) → upTo (n + 1) ≡ upTo n ++ (n ∷ [])
 upTo-more n = ap upTo (add-one n) ∙ from-more 0 n ∙ ap (λ (i : ℕ). upTo n ++ (i ∷ [])) (omega arith)
 
 -- ---- cells written one after the other
+
+pub over-none : (b : List ℕ) (at : ℕ) → over b at [] ≡ b
+over-none b at = ap (λ (k : ℕ). take at b ++ drop k b) (add-zero at) ∙ take-append-drop at b
 
 pub over-more : (b r s : List ℕ) (at : ℕ) → at + length r ≤ length b → over (over b at r) (at + length r) s ≡ over b at (r ++ s)
 over-more b r s at fit =
@@ -69,3 +73,31 @@ over-one (x ∷ b) (suc at) v h =
 pub over-next : (b r : List ℕ) (at v : ℕ) → at + length r < length b → set (over b at r) (at + length r) v ≡ over b at (r ++ (v ∷ []))
 over-next b r at v h =
     over-one (over b at r) (at + length r) v (omega (arith, length-over b r at (omega arith))) ∙ over-more b r (v ∷ []) at (omega arith)
+
+-- ---- rows that stand one after the other are one row
+
+block-more : (b : List ℕ) (at n k : ℕ) → block b at (n + k) ≡ block b at n ++ block b (at + n) k
+block-more b at n k = take-add n k (drop at b) ∙ ap (λ (l : List ℕ). block b at n ++ take k l) (drop-drop n at b)
+
+module _ (b : List ℕ) (at n m : ℕ) (source : List ℕ) (from : ℕ) (room : at + m * n ≤ length b) (rows : from + m * n ≤ length source) where
+  -- the rows below p, written at their places
+  rows-below : (p : ℕ) → p ≤ n → written b (rowsAt at m (take p (grid source from m n m))) ≡ over b at (block source from (m * p))
+  rows-below zero l = sym (over-none b at) ∙ ap (λ (k : ℕ). over b at (block source from k)) (sym (mul-zero m))
+  rows-below (suc p) l =
+      let g : List (List ℕ) = grid source from m n m in
+      let x : List ℕ = block source from (m * p) in
+      let y : List ℕ = block source (from + m * p) m in
+      let up : m * p + m ≤ m * n = omega (arith, mul-le-mul-left m l, mul-suc m p) in
+      let long : length x ≡ m * p = length-block source from (m * p) (omega arith) in
+      ap (λ (k : ℕ). written b (rowsAt at m (take k g))) (sym (add-one p))
+      ∙ written-more m g at p b (omega (arith, length-table n (λ q. block source (from + m * q) m)))
+      ∙ ap₂ (λ (c r : List ℕ). over c (at + m * p) r) (rows-below p (omega arith)) (getD-table n (λ q. block source (from + m * q) m) p [] l)
+      ∙ ap (λ (k : ℕ). over (over b at x) (at + k) y) (sym long)
+      ∙ over-more b x y at (omega arith)
+      ∙ ap (over b at) (sym (block-more source from (m * p) m))
+      ∙ ap (λ (k : ℕ). over b at (block source from k)) (sym (mul-suc m p))
+
+  pub rows-joined : written b (rowsAt at m (grid source from m n m)) ≡ over b at (block source from (n * m))
+  rows-joined =
+      let whole : take n (grid source from m n m) ≡ grid source from m n m = take-all n (grid source from m n m) (omega (arith, length-table n (λ q. block source (from + m * q) m))) in
+      ap (λ (rs : List (List ℕ)). written b (rowsAt at m rs)) (sym whole) ∙ rows-below n (le-refl n) ∙ ap (λ (k : ℕ). over b at (block source from k)) (mul-comm m n)

@@ -3,11 +3,11 @@ use mathlib.Core.Path.{_≡_, sym, ap, ap₂, _∙_, subst}
 use mathlib.Core.Bool.{Bool}
 use mathlib.Core.List.{List}
 use Prim.Native.Nat.{ℕ, _+_, _-_, _*_, _≤_, _<_}
+use native.Mathlib.Decide.{ℕ-discrete}
 use native.Mathlib.Omega.{arith}
-use lib.ListN.{length, getD, take, drop}
-use lib.Seq.{ext-getD, length-take-le, take-all, getD-take}
+use lib.ListN.{length, getD, set, take, drop, length-set}
+use lib.Seq.{ext-getD, length-take-le, take-all, getD-take, getD-set-same, getD-set-other}
 use lib.Dec.{eqb}
-use borrow.Rule.Slice.PartMut.{putMid}
 use Rattle.lists.specs.Tables.{table}
 use Rattle.lists.specs.Parts.{block}
 use Rattle.lists.proofs.TestLaws.{pick-elim}
@@ -20,12 +20,10 @@ use Rattle.value.specs.Rated.{Rates, Stocked}
 use Rattle.value.proofs.TermLaws.{terms-length}
 use Rattle.filling.specs.Match.{Matchable, FilledAs}
 use Rattle.filling.specs.declared.Filling.{Filling}
-use Rattle.rows.specs.Rows.{Becomes, Addable}
-use Rattle.rows.proofs.RowLaws.{lent-size, lent-in, lent-out}
-use Rattle.records.proofs.BookingLaws.{where-is}
+use Rattle.records.specs.Issues.{Used, IssuesWritable, IssuesWritten}
 use Rattle.stock.specs.Stock.{usableOf, Usable as RowUsable, Usables}
 use Rattle.orders.specs.Sizes.{issuesIn}
-use Rattle.matched.specs.Filled.{bookTerms, usableIn, UsableAsked, UsableLots, Fillable, filledIn, Usable, Used}
+use Rattle.matched.specs.Filled.{bookTerms, usableIn, UsableAsked, UsableLots, Fillable, filledIn, lotsWith, LotsWritable, LotsWritten}
 
 -- ---- what may be used
 
@@ -127,27 +125,78 @@ module _ {b cells : List ℕ} {j : ℕ} {rates usable : List ℕ} {all : ℕ} {o
       subst (λ (x : Filled). FilledAs x f lots′)
       (ap₂ (λ (q : Bool) (l : List ℕ). filled (getD b 2 0) q (bookTerms b) (take n usable) (take count order) (forcedIssue k (bookTerms b) l) (getD cells (4 * j + 2) 0)) e notices-are) p
 
--- ---- lots used
+-- ---- writing
 
-module _ (used : List ℕ) (d : ℕ) (lots : List ℕ) (h : Usable used d lots) where
-  abbrev count : ℕ
-  count = length lots
+module _ {b used lines : List ℕ} {d r number first : ℕ} {f : Filling} {lots : List ℕ} (h : LotsWritable b used lines d r number first f lots) where
+  abbrev place : ℕ
+  place = 32 * d + f .forced
 
-  pub used-fits : 32 * d + count ≤ length used
-  used-fits = omega (arith, h .places, h .participant, h .few)
+  abbrev further : ℕ
+  further = f .«forced_lots» .0
 
-  lent-cell : (i : ℕ) → i < count → getD (take (32 * d + count - 32 * d) (drop (32 * d) used)) i 0 ≡ getD used (32 * d + i) 0
-  lent-cell i l = ap (λ (p : List ℕ). getD p i 0) (part-is used (32 * d) count) ∙ block-get used (32 * d) count i l
+  size-with : length (lotsWith f lots) ≡ length lots
+  size-with = length-set lots (f .forced) (getD lots (f .forced) 0 + further)
 
-  pub use-asks : Addable (take (32 * d + count - 32 * d) (drop (32 * d) used)) lots
-  use-asks =
-      let e : length (take (32 * d + count - 32 * d) (drop (32 * d) used)) ≡ count = part-length used (32 * d) count used-fits in
-      record { room = omega arith; small = λ i l. omega (arith, h .small i (omega arith), lent-cell i (omega arith)) }
-
-  pub lots-used : {part : List ℕ} → Becomes (λ i c. c ≡ getD (take (32 * d + count - 32 * d) (drop (32 * d) used)) i 0 + getD lots i 0) (take (32 * d + count - 32 * d) (drop (32 * d) used)) part
-      → Used used (putMid (32 * d) (32 * d + count - 32 * d) used part) d lots
-  lots-used {part} w = record {
-    size = lent-size _ used (32 * d) count part used-fits w;
-    more = λ i l. lent-in _ used (32 * d) count part used-fits w i l ∙ ap (λ (x : ℕ). x + getD lots i 0) (lent-cell i l);
-    kept = λ j x. lent-out _ used (32 * d) count part used-fits w j (where-is j (32 * d) count x);
+  -- also in another book
+  pub lots-ask : {c : List ℕ} → length c ≡ length b → LotsWritable c used lines d r number first f lots
+  lots-ask e = record {
+    book = e ∙ h .book;
+    deliverer = h .deliverer;
+    receiver = h .receiver;
+    apart = h .apart;
+    few = h .few;
+    gone = h .gone;
+    small = h .small;
+    forced = h .forced;
+    forced-small = h .forced-small;
+    room = h .room;
   }
+
+  pub issues-ask : IssuesWritable b used lines d r number first (lotsWith f lots)
+  issues-ask = record {
+    cells = h .book;
+    deliverer = h .deliverer;
+    receiver = h .receiver;
+    apart = h .apart;
+    few = omega (arith, size-with, h .few);
+    places = h .gone;
+    small = λ i l. h .small i (omega (arith, size-with));
+    room = record { places = h .room };
+  }
+
+  module _ {b′ u lines′ : List ℕ} {count : ℕ} (w : IssuesWritten b used lines d r number first (lotsWith f lots) b′ u lines′ count) where
+    pub place-fits : place < length u
+    place-fits = omega (arith, w .gone .size, h .gone, h .deliverer, h .forced, h .few)
+
+    -- the forced issue's lots used, the forced ones with them
+    forced-is : getD u place 0 ≡ getD used place 0 + (getD lots (f .forced) 0 + further)
+    forced-is =
+        w .gone .more (f .forced) (omega (arith, size-with, h .forced))
+        ∙ ap (λ (x : ℕ). getD used place 0 + x) (getD-set-same lots (f .forced) (getD lots (f .forced) 0 + further) 0 (h .forced))
+
+    pub forced-there : further ≤ getD u place 0
+    forced-there = omega (arith, forced-is)
+
+    abbrev used′ : List ℕ
+    used′ = set u place (getD u place 0 - further)
+
+    without-forced : Used used used′ d lots
+    without-forced = record {
+      size = length-set u place (getD u place 0 - further) ∙ w .gone .size;
+      more = λ i l. cases i l (ℕ-discrete i (f .forced));
+      kept = λ q e. getD-set-other u place q (getD u place 0 - further) 0 (e (f .forced) (h .forced)) ∙ w .gone .kept q (λ i l. e i (omega (arith, size-with)));
+    }
+      where
+        cases : (i : ℕ) → i < length lots → Dec (i ≡ f .forced) → getD used′ (32 * d + i) 0 ≡ getD used (32 * d + i) 0 + getD lots i 0
+        cases i l (yes e) =
+            ap (λ (x : ℕ). getD used′ (32 * d + x) 0) e
+            ∙ getD-set-same u place (getD u place 0 - further) 0 place-fits
+            ∙ omega (arith, forced-is)
+            ∙ ap (λ (x : ℕ). getD used (32 * d + x) 0 + getD lots x 0) (sym e)
+        cases i l (no n) =
+            getD-set-other u place (32 * d + i) (getD u place 0 - further) 0 (λ e. n (omega arith))
+            ∙ w .gone .more i (omega (arith, size-with))
+            ∙ ap (λ (x : ℕ). getD used (32 * d + i) 0 + x) (getD-set-other lots (f .forced) i (getD lots (f .forced) 0 + further) 0 n)
+
+    pub lots-written : LotsWritten b used lines d r number first f lots b′ used′ lines′ count
+    lots-written = record { gone = without-forced; listed = w .listed; moved = w .moved }

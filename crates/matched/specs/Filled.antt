@@ -19,6 +19,7 @@ use Rattle.filling.specs.declared.Filling.{Filling}
 use Rattle.stock.specs.Stock.{usableOf}
 use Rattle.records.specs.Listed.{entryOf, linesFor, Listed}
 use Rattle.records.specs.Booked.{YenMoved, LotsMoved}
+use Rattle.records.specs.Issues.{Used}
 
 -- ---- the plan of a basket
 
@@ -93,33 +94,30 @@ filledIn b k cells j usable order count =
 abbrev pub lotsWith : Filling → List ℕ → List ℕ
 lotsWith f lots = set lots (f .forced) (getD lots (f .forced) 0 + f .«forced_lots» .0)
 
--- participant d's used lots, and so many more
-pub record Usable (used : List ℕ) (d : ℕ) (lots : List ℕ) : Type 0 where
-  pub places : length used ≡ 384
-  pub participant : d < 12
-  pub few : length lots ≤ 32
-  pub small : (i : ℕ) → i < length lots → getD used (32 * d + i) 0 + getD lots i 0 < 18446744073709551616
-
-pub record Used (entry exit : List ℕ) (d : ℕ) (lots : List ℕ) : Type 0 where
-  pub size : length exit ≡ length entry
-  pub more : (i : ℕ) → i < length lots → getD exit (32 * d + i) 0 ≡ getD entry (32 * d + i) 0 + getD lots i 0
-  pub kept : (j : ℕ) → ((i : ℕ) → i < length lots → j ≢ 32 * d + i) → getD exit j 0 ≡ getD entry j 0
-
-pub record Writable (b : List ℕ) (k : ℕ) (cells : List ℕ) (j : ℕ) (f : Filling) (lots used matches lines : List ℕ) (m l : ℕ) : Type 0 where
+pub record LotsWritable (b used lines : List ℕ) (d r number first : ℕ) (f : Filling) (lots : List ℕ) : Type 0 where
   pub book : length b ≡ bookLength
-  pub basket : k < 7
-  pub place : j < 11
-  pub deliverer : getD cells (4 * j) 0 < 12
-  pub receiver : getD cells (4 * j + 1) 0 < 12
-  pub apart : getD cells (4 * j) 0 ≢ getD cells (4 * j + 1) 0
+  pub deliverer : d < 12
+  pub receiver : r < 12
+  pub apart : d ≢ r
   pub few : length lots ≤ 32
   pub gone : length used ≡ 384
-  pub small : (i : ℕ) → i < length lots → getD used (32 * getD cells (4 * j) 0 + i) 0 + getD lots i 0 < 18446744073709551616
+  pub small : (i : ℕ) → i < length lots → getD used (32 * d + i) 0 + getD (lotsWith f lots) i 0 < 18446744073709551616
   pub forced : f .forced < length lots
   pub forced-small : getD lots (f .forced) 0 + f .«forced_lots» .0 < 18446744073709551616
+  pub room : 3 * (first + length (linesFor number (lotsWith f lots))) ≤ length lines
+
+-- lots used, and these with the forced ones listed and booked
+pub record LotsWritten (b used lines : List ℕ) (d r number first : ℕ) (f : Filling) (lots b′ used′ lines′ : List ℕ) (count : ℕ) : Type 0 where
+  pub gone : Used used used′ d lots
+  pub listed : Listed lines lines′ first number (lotsWith f lots) count
+  pub moved : LotsMoved b b′ d r (lotsWith f lots)
+
+pub record Writable (b : List ℕ) (k : ℕ) (cells : List ℕ) (j : ℕ) (f : Filling) (lots used matches lines : List ℕ) (m l : ℕ) : Type 0 where
+  pub basket : k < 7
+  pub place : j < 11
   pub match-room : 7 * (m + 1) ≤ length matches
   pub match-few : m + 1 < 18446744073709551616
-  pub line-room : 3 * (l + length (linesFor m (lotsWith f lots))) ≤ length lines
+  pub lots-asked : LotsWritable b used lines (getD cells (4 * j) 0) (getD cells (4 * j + 1) 0) m l f lots
 
 -- match j is written: its lots used, listed and booked
 pub record Wrote (b : List ℕ) (k : ℕ) (cells : List ℕ) (j : ℕ) (f : Filling) (lots used matches lines : List ℕ) (m l : ℕ)

@@ -1,9 +1,10 @@
 // One match of a basket: what it may use, its filling, and what is written of it. Matches stand in cells, four to each.
 ghost use Rattle.filling.specs.Match.{FilledAs};
 ghost use Rattle.matching.specs.Plans.{Planned};
-ghost use Rattle.matched.specs.Filled.{Plannable, PlanRows, planIn, UsableAsked, UsableLots, Fillable, filledIn, Usable, Used, Writable, Wrote};
+ghost use Rattle.matched.specs.Filled.{Plannable, PlanRows, planIn, UsableAsked, UsableLots, Fillable, filledIn, LotsWritable, LotsWritten, Writable, Wrote};
 use filling::Filling;
 use records::booking;
+use records::issues;
 use records::listing;
 use rule::Yen;
 
@@ -124,14 +125,37 @@ pub fn fill_next(
     )
 }
 
-// Lots of the deliverer's are used.
-fn use_lots(used: &mut [u64], deliverer: usize, lots: &[u64])
-    requires { ⌜ Usable (now used) deliverer (now lots) ⌝ }
-    ensures { λ _. ⌜ Used (now (used .entry)) (now (used .exit)) deliverer (now (lots .entry)) ⌝ }
+// A match's lots, the forced ones with them, booked and listed; "forced lots never count as used". How many lines there are then.
+fn write_lots(
+    book: &mut [u64],
+    used: &mut [u64],
+    lines: &mut [u64],
+    deliverer: usize,
+    receiver: usize,
+    number: u64,
+    first: usize,
+    f: Filling,
+    lots: &mut [u64],
+) -> usize
+    requires { ⌜ LotsWritable (now book) (now used) (now lines) deliverer receiver number first f (now lots) ⌝ }
+    ensures { λ count. ⌜ LotsWritten (now (book .entry)) (now (used .entry)) (now (lines .entry)) deliverer receiver number first f (now (lots .entry)) (now (book .exit)) (now (used .exit)) (now (lines .exit)) count ⌝ }
 {
-    let at = layout::MOST_ISSUES * deliverer;
-    let end = at + lots.len();
-    rows::add(&mut used[at..end], lots);
+    let forced = f.forced as usize;
+    let further = f.forced_lots;
+    lots[forced] = lots[forced] + further.0;
+    let count = issues::write_issues(
+        book,
+        &mut *used,
+        lines,
+        deliverer,
+        receiver,
+        number,
+        first,
+        &*lots,
+    );
+    let place = layout::MOST_ISSUES * deliverer + forced;
+    used[place] = used[place] - further.0;
+    count
 }
 
 // Match j as it was filled: its lots are used, and it is listed and booked.
@@ -154,11 +178,7 @@ pub fn write_next(
     let deliverer = cells[4 * j];
     let receiver = cells[4 * j + 1];
     let amount = cells[4 * j + 2];
-    let forced = f.forced as usize;
-    let further = f.forced_lots;
     let covered = f.covered;
-    use_lots(used, deliverer as usize, &*lots);
-    lots[forced] = lots[forced] + further.0;
     listing::write_match(
         matches,
         done.matches,
@@ -168,7 +188,6 @@ pub fn write_next(
         Yen(amount),
         f,
     );
-    let line = listing::write_lines(lines, done.lines, done.matches as u64, &*lots);
     booking::move_yen(
         &mut *book,
         basket,
@@ -176,7 +195,17 @@ pub fn write_next(
         receiver as usize,
         covered,
     );
-    booking::move_lots(book, deliverer as usize, receiver as usize, &*lots);
+    let line = write_lots(
+        book,
+        used,
+        lines,
+        deliverer as usize,
+        receiver as usize,
+        done.matches as u64,
+        done.lines,
+        f,
+        lots,
+    );
     Counts {
         matches: done.matches + 1,
         lines: line,

@@ -9,10 +9,14 @@ use Rattle.rule.specs.Day.{noticeRow, noticed}
 use Rattle.rule.specs.Calls.{Reply, accepted, answer, noticeChecks}
 use Rattle.rule.specs.Layout.{bookLength, noticesAt, view, stored}
 
--- every entry of a notice names a cell of the row
-pub record Named (cells : ℕ) (issues lots : List ℕ) : Type 0 where
+-- every entry names a number below `cells`
+pub record Named (cells : ℕ) (issues : List ℕ) : Type 0 where
+  pub below : (j : ℕ) → j < length issues → getD issues j 0 < cells
+
+-- every entry of a notice names a cell of the row, and has its lots
+pub record Entries (cells : ℕ) (issues lots : List ℕ) : Type 0 where
   pub lengths : length issues ≡ length lots
-  pub named : (j : ℕ) → j < length issues → getD issues j 0 < cells
+  pub named : Named cells issues
 
 unfoldable pub noticeSound : List ℕ → ℕ → List ℕ → List ℕ → Reply × List ℕ
 noticeSound b p issues lots =
@@ -23,7 +27,7 @@ pub record Written (b : List ℕ) (p : ℕ) (issues lots : List ℕ) : Type 0 wh
   pub size : length b ≡ bookLength
   pub sender : p < 12
   pub most : getD b 1 0 ≤ 32
-  pub entries : Named (getD b 1 0) issues lots
+  pub entries : Entries (getD b 1 0) issues lots
 
 -- the sender's row of the book
 unfoldable pub noticeWritten : List ℕ → ℕ → List ℕ → List ℕ → List ℕ

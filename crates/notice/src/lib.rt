@@ -2,15 +2,14 @@
 ghost use mathlib.Core.Path.{_≡_};
 ghost use Prim.Native.Nat.{_+_, _*_, _<_};
 ghost use lib.ListN.{length, getD};
-ghost use lib.Dec.{ltb, eqb};
-ghost use mathlib.Core.Bool.{not};
+ghost use lib.Dec.{ltb};
 ghost use Rattle.lists.specs.Tests.{allBelow};
 ghost use Rattle.rule.specs.Day.{noticeRow};
 ghost use Rattle.rule.specs.Calls.{distinct};
 ghost use Rattle.rule.specs.Layout.{noticeOf};
 ghost use Rattle.rule.specs.Answers.{told};
 ghost use Rattle.rule.proofs.BookLaws.{SoundBook};
-ghost use Rattle.notice.specs.Checked.{Named, Written, noticeSound, noticeWritten};
+ghost use Rattle.notice.specs.Checked.{Named, Entries, Written, noticeSound, noticeWritten};
 use book::limits;
 use book::sound;
 use rule::Answer;
@@ -30,31 +29,19 @@ fn all_of_day(named: &[u64], issues: u64) -> bool
     true
 }
 
-// Is entry j named by none before it?
-fn is_new(named: &[u64], j: usize) -> bool
-    requires { ⌜ j < length (now named) ⌝ }
-    ensures { λ r. ⌜ r ≡ allBelow j (λ i. not (eqb (getD (now (named .entry)) i 0) (getD (now (named .entry)) j 0))) ⌝ }
-{
-    let issue = named[j];
-    let mut i = 0;
-    while i < j {
-        if named[i] == issue {
-            return false;
-        }
-        i += 1;
-    }
-    true
-}
-
-// Is no issue named twice?
+// Is no issue named twice? Each is marked when it is met.
 fn all_distinct(named: &[u64]) -> bool
+    requires { ⌜ Named 32 (now named) ⌝ }
     ensures { λ r. ⌜ r ≡ distinct (now (named .entry)) ⌝ }
 {
+    let mut met = [false; 32];
     let mut j = 0;
     while j < named.len() {
-        if !is_new(named, j) {
+        let issue = named[j] as usize;
+        if met[issue] {
             return false;
         }
+        met[issue] = true;
         j += 1;
     }
     true
@@ -62,7 +49,7 @@ fn all_distinct(named: &[u64]) -> bool
 
 // The sender's row: every entry's lots at its issue, 0 elsewhere.
 fn write_row(row: &mut [u64], named: &[u64], lots: &[u64])
-    requires { ⌜ Named (length (now row)) (now named) (now lots) ⌝ }
+    requires { ⌜ Entries (length (now row)) (now named) (now lots) ⌝ }
     ensures { λ _. ⌜ now (row .exit) ≡ noticeRow (length (now (row .entry))) (now (named .entry)) (now (lots .entry)) ⌝ }
 {
     lists::clear(&mut *row);

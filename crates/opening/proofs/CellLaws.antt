@@ -5,13 +5,14 @@ use native.Mathlib.Nat.{mul-le-mul-left, mul-suc, mul-zero}
 use native.Mathlib.Numerals.{add-one}
 use native.Mathlib.Omega.{arith}
 use mathlib.Core.List.{List, []}
-use lib.ListN.{length, take}
+use lib.ListN.{length, take, drop}
 use lib.Seq.{take-length}
 use borrow.Rule.Slice.PartMut.{putMid}
 use Rattle.lists.specs.Tables.{row}
 use Rattle.lists.specs.Parts.{block, grid, over, rowsAt, written}
 use Rattle.lists.proofs.TableLaws.{length-table, getD-table}
-use Rattle.lists.proofs.PartLaws.{part-back, length-block, length-over, written-more, Shape, grid-shape, rows-inside, length-written}
+use Rattle.lists.proofs.AppendLaws.{rows-joined}
+use Rattle.lists.proofs.PartLaws.{part-length, part-back, length-block, length-over, written-more, Shape, grid-shape, rows-inside, length-written}
 use Rattle.opening.specs.Cells.{Copies}
 
 -- the rows below p are copied; `to` and `o` are where the next one goes to and comes from
@@ -56,6 +57,19 @@ module _ (b : List ℕ) (at stride n m : ℕ) (source : List ℕ) (from : ℕ) (
       let g : List (List ℕ) = grid source from m n m in
       let e : p ≡ length g = omega (arith, h .here, length-table n (λ q. block source (from + m * q) m)) in
       h .rows ∙ ap (λ (k : ℕ). written b (rowsAt at stride (take k g))) e ∙ ap (λ (rs : List (List ℕ)). written b (rowsAt at stride rs)) (take-length g)
+
+  -- rows that stand one after the other are copied as one
+  module _ (e : stride ≡ m) where
+    pub joined-room : at + n * m ≤ length b
+    joined-room = omega (arith, r .room, ap (λ (k : ℕ). k * n) e)
+
+    pub copied-joined : (part : List ℕ) → part ≡ block source from (length (take (at + n * m - at) (drop at b)))
+        → putMid at (at + n * m - at) b part ≡ written b (rowsAt at stride (grid source from m n m))
+    copied-joined part q =
+        ap (putMid at (at + n * m - at) b) (q ∙ ap (block source from) (part-length b at (n * m) joined-room))
+        ∙ part-back b at (n * m) (block source from (n * m)) (length-block source from (n * m) (omega (arith, r .rows)))
+        ∙ sym (rows-joined b at n m source from (omega (arith, joined-room)) (r .rows))
+        ∙ ap (λ (k : ℕ). written b (rowsAt at k (grid source from m n m))) (sym e)
 
   -- copied rows leave as many cells as there were
   pub copied-length : length (written b (rowsAt at stride (grid source from m n m))) ≡ length b

@@ -3,7 +3,7 @@ ghost use mathlib.Core.Path.{_≡_};
 ghost use Rattle.lists.specs.Parts.{grid, rowsAt, written};
 ghost use Rattle.opening.specs.Cells.{Copies};
 
-// n rows of m cells: from one after the other in the source to a stride apart.
+// n rows of m cells: from one after the other in the source to a stride apart. Rows that stand one after the other there too are copied as one.
 pub fn copy_rows(
     cells: &mut [u64],
     at: usize,
@@ -16,6 +16,11 @@ pub fn copy_rows(
     requires { ⌜ Copies (now cells) at stride n m (now source) from ⌝ }
     ensures { λ _. ⌜ now (cells .exit) ≡ written (now (cells .entry)) (rowsAt at stride (grid (now (source .entry)) from m n m)) ⌝ }
 {
+    if stride == m {
+        let end = at + n * m;
+        lists::copy(&mut cells[at..end], source, from);
+        return;
+    }
     let mut p = 0;
     let mut to = at;
     let mut o = from;

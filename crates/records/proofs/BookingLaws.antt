@@ -1,22 +1,23 @@
 -- Laws of booking a match. Assumes nothing.
-use mathlib.Core.Path.{_≡_, ap, _∙_}
-use mathlib.Core.Logic.{_≢_, _⊎_, inl, inr}
+use mathlib.Core.Path.{_≡_, refl, ap, _∙_}
+use mathlib.Core.Logic.{_≢_}
 use mathlib.Core.List.{List}
-use Prim.Native.Nat.{ℕ, _+_, _-_, _*_, _≤_, _<_, _%_, _^_}
-use native.Mathlib.Decide.{decLt, decLe}
+use Prim.Native.Nat.{ℕ, _+_, _-_, _<_, _%_, _^_}
+use native.Mathlib.Nat.{not-suc-le-zero}
 use native.Mathlib.Omega.{arith}
-use lib.ListN.{length, getD, set, take, drop, length-set}
+use lib.ListN.{length, getD, set, length-set}
 use lib.Seq.{getD-set-same, getD-set-other}
 use lib.Dec.{ltb}
-use borrow.Rule.Slice.PartMut.{putMid}
+use borrow.Author.Count.{below-more}
 use Rattle.lists.specs.Tests.{pick}
-use Rattle.rule.specs.Layout.{tallyAt}
-use Rattle.rows.specs.Rows.{Becomes, afterDelivery, afterReceipt}
-use Rattle.records.specs.Booked.{positionAt, markAt, Bookable, BookableLots, YenMoved, LotsMoved}
-use Rattle.lists.proofs.PartLaws.{part-is, block-get}
-use Rattle.rows.proofs.RowLaws.{lent-size, lent-in, lent-out}
+use Rattle.records.specs.Booked.{positionAt, markAt, tallyOf, Bookable, BookableLots, YenMoved, IssueMoved, LotsMovedTo}
 
 -- ---- yen
+
+-- what taking l from x gives, in 64 bits
+pub lowered : (x l r : ℕ) → x < 18446744073709551616 → l < 18446744073709551616 → r < 18446744073709551616 → (r + l) % 2 ^ 64 ≡ x
+    → r ≡ (x + (18446744073709551616 - l)) % 18446744073709551616
+lowered x l r h k m e = omega arith
 
 pub yen-moved : (b : List ℕ) (k d r yen owed due mark : ℕ) → Bookable b k d r
     → owed ≡ (getD b (positionAt k d) 0 + (18446744073709551616 - yen)) % 18446744073709551616 → due ≡ (getD b (positionAt k r) 0 + yen) % 2 ^ 64 → mark ≡ pick (ltb 0 yen) 1 (getD b (markAt k d r) 0)
@@ -38,58 +39,38 @@ yen-moved b k d r yen owed due mark h e f g =
 
 -- ---- lots
 
--- a place is in a row of n cells from a on, or before it, or behind it
-pub where-is : (j a n : ℕ) → ((i : ℕ) → i < n → j ≢ a + i) → (j < a) ⊎ (a + n ≤ j)
-where-is j a n h = go (decLt j a) (decLe (a + n) j)
-  where
-    go : Dec (j < a) → Dec (a + n ≤ j) → (j < a) ⊎ (a + n ≤ j)
-    go (yes l) m = inl l
-    go (no l) (yes m) = inr m
-    go (no l) (no m) = absurd (h (j - a) (omega arith) (omega arith))
-
-module _ (b : List ℕ) (d r : ℕ) (lots : List ℕ) (h : BookableLots b d r lots) where
-  abbrev n : ℕ
-  n = length lots
-
-  abbrev from : ℕ
-  from = tallyAt + 32 * d
-
-  abbrev to : ℕ
-  to = tallyAt + 32 * r
-
-  pub from-fits : from + n ≤ length b
-  from-fits = omega (arith, h .cells, h .deliverer, h .few)
-
-  module _ (part : List ℕ) (w : Becomes (afterDelivery (take (from + n - from) (drop from b)) lots) (take (from + n - from) (drop from b)) part) where
-    abbrev c : List ℕ
-    c = putMid from (from + n - from) b part
-
-    c-size : length c ≡ length b
-    c-size = lent-size _ b from n part from-fits w
-
-    pub to-fits : to + n ≤ length c
-    to-fits = omega (arith, c-size, h .cells, h .receiver, h .few)
-
-    -- a cell of the part that was lent
-    lent : (xs : List ℕ) (a i : ℕ) → i < n → getD (take (a + n - a) (drop a xs)) i 0 ≡ getD xs (a + i) 0
-    lent xs a i l = ap (λ (p : List ℕ). getD p i 0) (part-is xs a n) ∙ block-get xs a n i l
-
-    pub lots-moved : (part′ : List ℕ) → Becomes (afterReceipt (take (to + n - to) (drop to c)) lots) (take (to + n - to) (drop to c)) part′
-        → LotsMoved b (putMid to (to + n - to) c part′) d r lots
-    lots-moved part′ v = record {
-      size = lent-size _ c to n part′ to-fits v ∙ c-size;
-      delivered = λ i l.
-          lent-out _ c to n part′ to-fits v (from + i) (beside i l)
-          ∙ lent-in _ b from n part from-fits w i l
-          ∙ ap (λ (x : ℕ). (x + getD lots i 0) % 18446744073709551616) (lent b from i l);
-      received = λ i l.
-          lent-in _ c to n part′ to-fits v i l
-          ∙ ap (λ (x : ℕ). (x + (18446744073709551616 - getD lots i 0)) % 18446744073709551616) (lent c to i l ∙ lent-out _ b from n part from-fits w (to + i) (beside′ i l));
-      kept = λ j x y. lent-out _ c to n part′ to-fits v j (where-is j to n y) ∙ lent-out _ b from n part from-fits w j (where-is j from n x);
+pub issue-moved : (b : List ℕ) (d r i lots delivered received : ℕ) → BookableLots b d r i
+    → getD b (tallyOf r i) 0 < 18446744073709551616 → lots < 18446744073709551616 → received < 18446744073709551616
+    → delivered ≡ (getD b (tallyOf d i) 0 + lots) % 2 ^ 64 → (received + lots) % 2 ^ 64 ≡ getD b (tallyOf r i) 0
+    → IssueMoved b (set (set b (tallyOf d i) delivered) (tallyOf r i) received) d r i lots
+issue-moved b d r i lots delivered received h x y z e f =
+    let c : List ℕ = set b (tallyOf d i) delivered in
+    let size : length c ≡ length b = length-set b (tallyOf d i) delivered in
+    record {
+      size = length-set c (tallyOf r i) received ∙ size;
+      delivered = getD-set-other c (tallyOf r i) (tallyOf d i) received 0 (λ s. h .apart (omega arith))
+          ∙ getD-set-same b (tallyOf d i) delivered 0 (omega (arith, h .cells, h .deliverer, h .issue)) ∙ e;
+      received = getD-set-same c (tallyOf r i) received 0 (omega (arith, h .cells, h .receiver, h .issue, size)) ∙ lowered (getD b (tallyOf r i) 0) lots received x y z f;
+      kept = λ j u v. getD-set-other c (tallyOf r i) j received 0 v ∙ getD-set-other b (tallyOf d i) j delivered 0 u;
     }
-      where
-        beside : (i : ℕ) → i < n → (from + i < to) ⊎ (to + n ≤ from + i)
-        beside i l = where-is (from + i) to n (λ q m e. h .apart (omega (arith, h .few)))
 
-        beside′ : (i : ℕ) → i < n → (to + i < from) ⊎ (from + n ≤ to + i)
-        beside′ i l = where-is (to + i) from n (λ q m e. h .apart (omega (arith, h .few)))
+-- no lots move nothing: every cell of a book is a number of 64 bits
+pub none-moved : (b : List ℕ) (d r i : ℕ) {lots : ℕ} → lots ≡ 0 → getD b (tallyOf d i) 0 < 18446744073709551616 → getD b (tallyOf r i) 0 < 18446744073709551616 → IssueMoved b b d r i lots
+none-moved b d r i e x y = record { size = refl; delivered = omega arith; received = omega arith; kept = λ j u v. refl }
+
+-- ---- the lots of one issue after the other
+
+pub lots-none : (b : List ℕ) (d r : ℕ) (lots : List ℕ) → LotsMovedTo 0 b b d r lots
+lots-none b d r lots = record { size = refl; delivered = λ i l. absurd (not-suc-le-zero l); received = λ i l. absurd (not-suc-le-zero l); kept = λ j u v. refl }
+
+pub lots-more : {b c c′ : List ℕ} {d r n : ℕ} (lots : List ℕ) → d ≢ r → n < 32 → LotsMovedTo n b c d r lots → IssueMoved c c′ d r n (getD lots n 0) → LotsMovedTo (n + 1) b c′ d r lots
+lots-more {b} {c} {c′} {d} {r} {n} lots apart few w m = record {
+  size = m .size ∙ w .size;
+  delivered = below-more (λ i. getD c′ (tallyOf d i) 0 ≡ (getD b (tallyOf d i) 0 + getD lots i 0) % 18446744073709551616) n
+      (λ i l. m .kept (tallyOf d i) (omega arith) (λ e. apart (omega arith)) ∙ w .delivered i l)
+      (m .delivered ∙ ap (λ (x : ℕ). (x + getD lots n 0) % 18446744073709551616) (w .kept (tallyOf d n) (λ i l. omega arith) (λ i l e. apart (omega arith))));
+  received = below-more (λ i. getD c′ (tallyOf r i) 0 ≡ (getD b (tallyOf r i) 0 + (18446744073709551616 - getD lots i 0)) % 18446744073709551616) n
+      (λ i l. m .kept (tallyOf r i) (λ e. apart (omega arith)) (omega arith) ∙ w .received i l)
+      (m .received ∙ ap (λ (x : ℕ). (x + (18446744073709551616 - getD lots n 0)) % 18446744073709551616) (w .kept (tallyOf r n) (λ i l e. apart (omega arith)) (λ i l. omega arith)));
+  kept = λ j u v. m .kept j (u n (omega arith)) (v n (omega arith)) ∙ w .kept j (λ i l. u i (omega arith)) (λ i l. v i (omega arith));
+}

@@ -7,7 +7,7 @@ use Prim.Native.Nat.{ℕ, zero, suc, _+_, _-_, _*_, _≤_, _<_}
 use native.Mathlib.Nat.{add-zero}
 use native.Mathlib.Decide.{decLt}
 use native.Mathlib.Omega.{arith}
-use lib.ListN.{length, getD, set, take, drop, length-append, take-append-drop}
+use lib.ListN.{length, getD, set, length-append}
 use lib.Dec.{ltb}
 use borrow.Author.Tests.{lt-ltb, le-ltb}
 use Rattle.lists.specs.Tests.{pick}
@@ -16,7 +16,7 @@ use Rattle.lists.specs.Folds.{keep, joined, Every}
 use Rattle.lists.specs.Parts.{over}
 use Rattle.lists.proofs.TestLaws.{pick-yes, pick-no}
 use Rattle.lists.proofs.PartLaws.{length-over}
-use Rattle.lists.proofs.AppendLaws.{map-append, keep-append, joined-append, joined-length, upTo-more, over-more, over-one, over-next}
+use Rattle.lists.proofs.AppendLaws.{map-append, keep-append, joined-append, joined-length, upTo-more, over-none, over-more, over-one, over-next}
 use Rattle.records.specs.Listed.{lineFor, linesTo, linesFor, LineRoom, Lined, LinesRoom, Listed}
 
 -- ---- entries of three and of seven cells
@@ -36,20 +36,15 @@ seven-written b at x y z u v w t h =
     ∙ ap (λ (l : List ℕ). set l (at + 6) t) (over-next b (x ∷ y ∷ z ∷ u ∷ v ∷ []) at w (omega arith))
     ∙ over-next b (x ∷ y ∷ z ∷ u ∷ v ∷ w ∷ []) at t (omega arith)
 
+-- ---- the line of an issue, if it has lots
+
 pub lined-none : (b : List ℕ) (line number i : ℕ) {lots : ℕ} → lots ≡ 0 → Lined b b line number i lots line
 lined-none b line number i z = record { some = λ h. absurd (omega arith); none = λ h. (refl, refl) }
 
-pub lined-some : (b : List ℕ) (line number i : ℕ) {lots : ℕ} → lots ≢ 0 → LineRoom b line lots
-    → Lined b (set (set (set b (3 * line) number) (3 * line + 1) i) (3 * line + 2) lots) line number i lots (line + 1)
-lined-some b line number i {lots} z h = record {
-  some = λ p. (three-written b (3 * line) number i lots (omega (arith, h .places p)), refl);
-  none = λ p. absurd (z (omega arith));
-}
+pub lined-some : {b c : List ℕ} (line number i : ℕ) {lots : ℕ} → lots ≢ 0 → c ≡ over b (3 * line) (number ∷ i ∷ lots ∷ []) → Lined b c line number i lots (line + 1)
+lined-some line number i {lots} z e = record { some = λ p. (e, refl); none = λ p. absurd (z (omega arith)) }
 
 -- ---- the lines of a match
-
-pub over-none : (b : List ℕ) (at : ℕ) → over b at [] ≡ b
-over-none b at = ap (λ (k : ℕ). take at b ++ drop k b) (add-zero at) ∙ take-append-drop at b
 
 lines-three : (number : ℕ) (lots is : List ℕ) → Every (λ r. length r ≡ 3) (map (lineFor number lots) is)
 lines-three number lots [] = tt
@@ -126,8 +121,8 @@ module _ (entry : List ℕ) (first number : ℕ) (lots : List ℕ) where
     room : 0 < getD lots i 0 → 3 * (line + 1) ≤ length lines
     room some = omega (arith, listed-room _ (one-more some), w .size, w .counted)
 
-    pub line-room : LineRoom lines line (getD lots i 0)
-    line-room = record { places = room }
+    pub line-room : 0 < getD lots i 0 → LineRoom lines line
+    line-room some = record { places = room some }
 
     -- a line more, or none
     pub listed-more : {next : List ℕ} {count : ℕ} → Lined lines next line number i (getD lots i 0) count → ListedTo next count (i + 1)

@@ -2,7 +2,7 @@
 use mathlib.Core.Path.{_≡_}
 use mathlib.Core.Logic.{_≢_}
 use mathlib.Core.List.{List}
-use Prim.Native.Nat.{ℕ, _+_, _-_, _*_, _≤_, _<_, _%_}
+use Prim.Native.Nat.{ℕ, _+_, _-_, _*_, _<_, _%_}
 use lib.ListN.{length, getD}
 use lib.Dec.{ltb}
 use Rattle.lists.specs.Tests.{pick}
@@ -26,12 +26,13 @@ pub record Bookable (b : List ℕ) (k d r : ℕ) : Type 0 where
   pub receiver : r < 12
   pub apart : d ≢ r
 
-pub record BookableLots (b : List ℕ) (d r : ℕ) (lots : List ℕ) : Type 0 where
+-- and an issue
+pub record BookableLots (b : List ℕ) (d r i : ℕ) : Type 0 where
   pub cells : length b ≡ bookLength
   pub deliverer : d < 12
   pub receiver : r < 12
   pub apart : d ≢ r
-  pub few : length lots ≤ 32
+  pub issue : i < 32
 
 -- yen left two positions, and a pair is marked if they are above 0
 pub record YenMoved (b c : List ℕ) (k d r yen : ℕ) : Type 0 where
@@ -41,9 +42,19 @@ pub record YenMoved (b c : List ℕ) (k d r yen : ℕ) : Type 0 where
   pub pair : getD c (markAt k d r) 0 ≡ pick (ltb 0 yen) 1 (getD b (markAt k d r) 0)
   pub kept : (j : ℕ) → j ≢ positionAt k d → j ≢ positionAt k r → j ≢ markAt k d r → getD c j 0 ≡ getD b j 0
 
--- lots moved in two rows of the tally
-pub record LotsMoved (b c : List ℕ) (d r : ℕ) (lots : List ℕ) : Type 0 where
+-- an issue's lots moved in two tallies
+pub record IssueMoved (b c : List ℕ) (d r i lots : ℕ) : Type 0 where
   pub size : length c ≡ length b
-  pub delivered : (i : ℕ) → i < length lots → getD c (tallyOf d i) 0 ≡ (getD b (tallyOf d i) 0 + getD lots i 0) % 18446744073709551616
-  pub received : (i : ℕ) → i < length lots → getD c (tallyOf r i) 0 ≡ (getD b (tallyOf r i) 0 + (18446744073709551616 - getD lots i 0)) % 18446744073709551616
-  pub kept : (j : ℕ) → ((i : ℕ) → i < length lots → j ≢ tallyOf d i) → ((i : ℕ) → i < length lots → j ≢ tallyOf r i) → getD c j 0 ≡ getD b j 0
+  pub delivered : getD c (tallyOf d i) 0 ≡ (getD b (tallyOf d i) 0 + lots) % 18446744073709551616
+  pub received : getD c (tallyOf r i) 0 ≡ (getD b (tallyOf r i) 0 + (18446744073709551616 - lots)) % 18446744073709551616
+  pub kept : (j : ℕ) → j ≢ tallyOf d i → j ≢ tallyOf r i → getD c j 0 ≡ getD b j 0
+
+-- the first n issues' lots
+pub record LotsMovedTo (n : ℕ) (b c : List ℕ) (d r : ℕ) (lots : List ℕ) : Type 0 where
+  pub size : length c ≡ length b
+  pub delivered : (i : ℕ) → i < n → getD c (tallyOf d i) 0 ≡ (getD b (tallyOf d i) 0 + getD lots i 0) % 18446744073709551616
+  pub received : (i : ℕ) → i < n → getD c (tallyOf r i) 0 ≡ (getD b (tallyOf r i) 0 + (18446744073709551616 - getD lots i 0)) % 18446744073709551616
+  pub kept : (j : ℕ) → ((i : ℕ) → i < n → j ≢ tallyOf d i) → ((i : ℕ) → i < n → j ≢ tallyOf r i) → getD c j 0 ≡ getD b j 0
+
+abbrev pub LotsMoved : List ℕ → List ℕ → ℕ → ℕ → List ℕ → Type 0
+LotsMoved b c d r lots = LotsMovedTo (length lots) b c d r lots

@@ -1,3 +1,4 @@
 -- What writing a match asks and leaves.
 pub mod Listed
 pub mod Booked
+pub mod Issues

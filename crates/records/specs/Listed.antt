@@ -29,11 +29,11 @@ pub record MatchRoom (matches : List ℕ) (number : ℕ) : Type 0 where
   pub places : 7 * (number + 1) ≤ length matches
   pub small : number < 18446744073709551616
 
--- for line `line`, if the issue has lots
-pub record LineRoom (lines : List ℕ) (line lots : ℕ) : Type 0 where
-  pub places : 0 < lots → 3 * (line + 1) ≤ length lines
+-- for line `line`
+pub record LineRoom (lines : List ℕ) (line : ℕ) : Type 0 where
+  pub places : 3 * (line + 1) ≤ length lines
 
--- it was written, if the issue has lots; then there are `count`
+-- a line was written, if the issue has lots; then there are `count`
 pub record Lined (entry exit : List ℕ) (line number issue lots count : ℕ) : Type 0 where
   pub some : 0 < lots → (exit ≡ over entry (3 * line) (number ∷ issue ∷ lots ∷ [])) × (count ≡ line + 1)
   pub none : lots ≤ 0 → (exit ≡ entry) × (count ≡ line)

@@ -1,8 +1,9 @@
-// A filled match in the book: two positions, a pair of today, two rows of the tally.
+// A filled match in the book: two positions, a pair of today, and two tallies of each issue.
 ghost use mathlib.Core.Path.{_≡_};
 ghost use lib.Dec.{ltb};
 ghost use Rattle.lists.specs.Tests.{pick};
-ghost use Rattle.records.specs.Booked.{Bookable, BookableLots, YenMoved, LotsMoved};
+ghost use Rattle.records.specs.Booked.{Bookable, BookableLots, YenMoved, IssueMoved};
+use rule::Lots;
 use rule::Yen;
 
 // A pair is today's where it is "covered above 0 today".
@@ -32,15 +33,15 @@ pub fn move_yen(book: &mut [u64], basket: usize, deliverer: usize, receiver: usi
     book[pair] = mark;
 }
 
-// The tally: "lots delivered, forced ones included, less lots received".
-pub fn move_lots(book: &mut [u64], deliverer: usize, receiver: usize, lots: &[u64])
-    requires { ⌜ BookableLots (now book) deliverer receiver (now lots) ⌝ }
-    ensures { λ _. ⌜ LotsMoved (now (book .entry)) (now (book .exit)) deliverer receiver (now (lots .entry)) ⌝ }
+// The tally: "lots delivered, forced ones included, less lots received". One issue's.
+pub fn move_lots(book: &mut [u64], deliverer: usize, receiver: usize, issue: usize, lots: Lots)
+    requires { ⌜ BookableLots (now book) deliverer receiver issue ⌝ }
+    ensures { λ _. ⌜ IssueMoved (now (book .entry)) (now (book .exit)) deliverer receiver issue (lots .0) ⌝ }
 {
-    let from = layout::TALLY + layout::MOST_ISSUES * deliverer;
-    let from_end = from + lots.len();
-    rows::deliver(&mut book[from..from_end], lots);
-    let to = layout::TALLY + layout::MOST_ISSUES * receiver;
-    let to_end = to + lots.len();
-    rows::receive(&mut book[to..to_end], lots);
+    let from = layout::TALLY + layout::MOST_ISSUES * deliverer + issue;
+    let to = layout::TALLY + layout::MOST_ISSUES * receiver + issue;
+    let delivered = std::num::wrapping_add_u64(book[from], lots.0);
+    let received = std::num::wrapping_sub_u64(book[to], lots.0);
+    book[from] = delivered;
+    book[to] = received;
 }

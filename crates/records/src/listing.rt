@@ -1,9 +1,11 @@
 // The two lists of a run.
 ghost use mathlib.Core.Path.{_≡_};
+ghost use mathlib.Core.List.{[], _∷_};
 ghost use Prim.Native.Nat.{_*_};
 ghost use Rattle.lists.specs.Parts.{over};
-ghost use Rattle.records.specs.Listed.{entryOf, MatchRoom, LineRoom, Lined, LinesRoom, Listed};
+ghost use Rattle.records.specs.Listed.{entryOf, MatchRoom, LineRoom};
 use filling::Filling;
+use rule::Lots;
 use rule::Yen;
 
 // "A match is basket, deliverer, receiver, matched yen, covered yen, forced issue, forced lots".
@@ -31,29 +33,13 @@ pub fn write_match(
     matches[at + 6] = lots.0;
 }
 
-// "A line is match number .., issue, lots": none without lots. How many lines there are then.
-fn write_line(lines: &mut [u64], line: usize, number: u64, issue: u64, lots: u64) -> usize
-    requires { ⌜ LineRoom (now lines) line lots ⌝ }
-    ensures { λ count. ⌜ Lined (now (lines .entry)) (now (lines .exit)) line number issue lots count ⌝ }
+// "A line is match number .., issue, lots".
+pub fn write_line(lines: &mut [u64], line: usize, number: u64, issue: u64, lots: Lots)
+    requires { ⌜ LineRoom (now lines) line ⌝ }
+    ensures { λ _. ⌜ now (lines .exit) ≡ over (now (lines .entry)) (3 * line) (number ∷ issue ∷ lots .0 ∷ []) ⌝ }
 {
-    if lots == 0 {
-        return line;
-    }
     let at = 3 * line;
     lines[at] = number;
     lines[at + 1] = issue;
-    lines[at + 2] = lots;
-    line + 1
-}
-
-// A line for each issue with lots, "issues rise within a match". How many lines there are then.
-pub fn write_lines(lines: &mut [u64], first: usize, number: u64, lots: &[u64]) -> usize
-    requires { ⌜ LinesRoom (now lines) first number (now lots) ⌝ }
-    ensures { λ count. ⌜ Listed (now (lines .entry)) (now (lines .exit)) first number (now (lots .entry)) count ⌝ }
-{
-    let mut line = first;
-    for i in 0..lots.len() {
-        line = write_line(&mut *lines, line, number, i as u64, lots[i]);
-    }
-    line
+    lines[at + 2] = lots.0;
 }

@@ -1,9 +1,10 @@
 -- Laws of a loop that changes each cell of a row in its turn: P says what cell i becomes. Assumes nothing.
 use mathlib.Core.Path.{_≡_, refl, sym, ap, _∙_, subst}
-use mathlib.Core.Logic.{_⊎_}
+use mathlib.Core.Logic.{_≢_, _⊎_, inl, inr}
 use mathlib.Core.List.{List}
-use Prim.Native.Nat.{ℕ, _+_, _-_, _≤_, _<_, _%_, _^_}
+use Prim.Native.Nat.{ℕ, _+_, _-_, _≤_, _<_}
 use native.Mathlib.Nat.{not-suc-le-zero}
+use native.Mathlib.Decide.{decLt, decLe}
 use native.Mathlib.Omega.{arith}
 use lib.ListN.{length, getD, set, take, drop, length-set}
 use borrow.Rule.Slice.PartMut.{putMid}
@@ -33,20 +34,6 @@ module _ (P : ℕ → ℕ → Type 0) where
   pub changed-all : {row₀ row : List ℕ} {i : ℕ} → length row₀ ≤ i → Changed P row₀ row i → Becomes P row₀ row
   changed-all l w = record { size = w .size; cells = λ k h. w .cells k (omega arith) }
 
--- ---- a tally's cell
-
-pub delivered-cell : {x x₀ r : ℕ} (l : ℕ) → r ≡ (x + l) % 2 ^ 64 → x ≡ x₀ → r ≡ (x₀ + l) % 18446744073709551616
-delivered-cell l e h = e ∙ ap (λ (z : ℕ). (z + l) % 18446744073709551616) h
-
--- what taking l from x gives, in 64 bits
-pub lowered : (x l r : ℕ) → x < 18446744073709551616 → l < 18446744073709551616 → r < 18446744073709551616 → (r + l) % 2 ^ 64 ≡ x
-    → r ≡ (x + (18446744073709551616 - l)) % 18446744073709551616
-lowered x l r h k m e = omega arith
-
-pub received-cell : (x x₀ l r : ℕ) → x < 18446744073709551616 → l < 18446744073709551616 → r < 18446744073709551616 → (r + l) % 2 ^ 64 ≡ x → x ≡ x₀
-    → r ≡ (x₀ + (18446744073709551616 - l)) % 18446744073709551616
-received-cell x x₀ l r h k m e f = lowered x l r h k m e ∙ ap (λ (z : ℕ). (z + (18446744073709551616 - l)) % 18446744073709551616) f
-
 -- ---- a row that was lent, `&mut xs[a..a + n]`, changed, and is back
 
 module _ (P : ℕ → ℕ → Type 0) (xs : List ℕ) (a n : ℕ) (part : List ℕ) (fit : a + n ≤ length xs) (w : Becomes P (take (a + n - a) (drop a xs)) part) where
@@ -72,3 +59,12 @@ module _ (P : ℕ → ℕ → Type 0) (xs : List ℕ) (a n : ℕ) (part : List �
 
   pub lent-out : (j : ℕ) → (j < a) ⊎ (a + n ≤ j) → getD back j 0 ≡ getD xs j 0
   lent-out j h = ap (λ (l : List ℕ). getD l j 0) same ∙ over-out xs part a room j (subst (λ (k : ℕ). (j < a) ⊎ (a + k ≤ j)) (sym size) h)
+
+-- a place is in a row of n cells from a on, or before it, or behind it
+pub where-is : (j a n : ℕ) → ((i : ℕ) → i < n → j ≢ a + i) → (j < a) ⊎ (a + n ≤ j)
+where-is j a n h = go (decLt j a) (decLe (a + n) j)
+  where
+    go : Dec (j < a) → Dec (a + n ≤ j) → (j < a) ⊎ (a + n ≤ j)
+    go (yes l) m = inl l
+    go (no l) (yes m) = inr m
+    go (no l) (no m) = absurd (h (j - a) (omega arith) (omega arith))

@@ -34,13 +34,12 @@ use Rattle.records.specs.Booked.{positionAt, markAt, tallyOf}
 use Rattle.orders.specs.Sizes.{participantsIn, issuesIn, Sized}
 use Rattle.runs.specs.Running.{doneTo, BookedTo, Start, Running, Done, BasketAsks}
 use Rattle.runs.specs.Ran.{BasketsAsk, BasketsDone, Cleared, Ran}
-use Rattle.rows.proofs.RowLaws.{lent-size, lent-in, lent-out}
-use Rattle.records.proofs.BookingLaws.{where-is}
+use Rattle.rows.proofs.RowLaws.{lent-size, lent-in, lent-out, where-is}
 use Rattle.orders.proofs.OrderLaws.{orders-begin}
 use Rattle.runs.proofs.DoneLaws.{done-none, done-all}
 use Rattle.runs.proofs.BookedLaws.{booked-none}
 use Rattle.runs.proofs.ReadLaws.{terms-are, low-kept, participants-kept, issues-kept, sized-kept}
-use Rattle.records.proofs.ListingLaws.{over-none}
+use Rattle.lists.proofs.AppendLaws.{over-none}
 use Rattle.runs.proofs.NextLaws.{runnable}
 
 -- ---- the seven baskets

@@ -302,20 +302,22 @@ module _ (b draw m₀ l₀ : List ℕ) (S : Start b draw m₀ l₀) (k : ℕ) (b
 
           pub write-asks : Writable c k cells j f row used′ matches lines n q
           write-asks = record {
-            book = R .booked .size;
             basket = basket;
             place = omega (arith, P .few);
-            deliverer = omega (arith, deliverer, S .book .sizes .few);
-            receiver = omega (arith, receiver, S .book .sizes .few);
-            apart = λ x. z .apart (next-deliverer b draw m₀ l₀ S k basket cells count inside before P j l ∙ x ∙ sym (next-receiver b draw m₀ l₀ S k basket cells count inside before P j l));
-            few = omega (arith, row-size, S .book .sizes .most);
-            gone = R .places;
-            small = λ i x. omega (arith, row-size, used-at i (omega (arith, row-size)), ap (λ (v : List ℕ). getD v i 0) row-is, used-few i (omega (arith, row-size)));
-            forced = omega (arith, F .forced, forced, ap length row-is);
-            forced-small = omega (arith, sum-is, lots-few (a .filled .forced) (omega (arith, forced, issues)));
             match-room = omega (arith, R .match-count, matches-few, R .match-size, S .match-places);
             match-few = omega (arith, R .match-count, matches-few);
-            line-room = omega (arith, R .line-count, R .line-size, lines-fit, ap length lines-is, ap (λ (x : ℕ). length (linesOf x a)) (R .match-count), S .line-places);
+            lots-asked = record {
+              book = R .booked .size;
+              deliverer = omega (arith, deliverer, S .book .sizes .few);
+              receiver = omega (arith, receiver, S .book .sizes .few);
+              apart = λ x. z .apart (next-deliverer b draw m₀ l₀ S k basket cells count inside before P j l ∙ x ∙ sym (next-receiver b draw m₀ l₀ S k basket cells count inside before P j l));
+              few = omega (arith, row-size, S .book .sizes .most);
+              gone = R .places;
+              small = λ i x. omega (arith, used-at i (omega (arith, row-size)), used-few i (omega (arith, row-size)), all-is i, lots-few i (omega (arith, row-size, issues)));
+              forced = omega (arith, F .forced, forced, ap length row-is);
+              forced-small = omega (arith, sum-is, lots-few (a .filled .forced) (omega (arith, forced, issues)));
+              room = omega (arith, R .line-count, R .line-size, lines-fit, ap length lines-is, ap (λ (x : ℕ). length (linesOf x a)) (R .match-count), S .line-places);
+            };
           }
             where
               sum-is : getD row (f .forced) 0 + f .«forced_lots» .0 ≡ allLots (a .filled) (a .filled .forced)
@@ -371,7 +373,7 @@ module _ (b draw m₀ l₀ : List ℕ) (S : Start b draw m₀ l₀) (k : ℕ) (b
                   places = W .gone .size ∙ R .places;
                   gone = gone;
                   match-size = ap length (W .entry) ∙ length-over matches (entryOf k d r (getD cells (4 * j + 2) 0) f) (7 * n) (omega (arith, write-asks .match-room)) ∙ R .match-size;
-                  line-size = ap length (W .listed .cells) ∙ length-over lines (joined (linesFor n (lotsWith f row))) (3 * q) (omega (arith, write-asks .line-room, cells-for n (lotsWith f row))) ∙ R .line-size;
+                  line-size = ap length (W .listed .cells) ∙ length-over lines (joined (linesFor n (lotsWith f row))) (3 * q) (omega (arith, write-asks .lots-asked .room, cells-for n (lotsWith f row))) ∙ R .line-size;
                   entries = entries-more m₀ matches matches′ done a n (R .entries) (R .match-count) (omega (arith, matches-few, S .match-places)) (W .entry ∙ ap (over matches (7 * n)) entry);
                   rows = both .0;
                   match-count = W .matched ∙ omega (arith, R .match-count, length-append done (a ∷ []));

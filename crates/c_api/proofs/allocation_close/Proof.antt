@@ -3,10 +3,6 @@ use borrow.Author.Needs.{needs}
 use Rattle.c_api.proofs.ReturnLaws.{for-c}
 use Rattle.c_api.proofs.allocation_close.Statement.{statement}
 use Rattle.c_api.proofs.allocation_close.Tie as tie
-use Rattle.c_api.proofs.allocation_close.Reads as reads
-use Rattle.c_api.proofs.allocation_close.Lts as lts
-use Rattle.close.proofs.close.Reads as close-reads
-use Rattle.c_api.proofs.returned.Reads as returned-reads
 
 close-requires : tie.Need-close-requires
 close-requires c κs = search needs

@@ -3,10 +3,6 @@ use borrow.Author.Needs.{needs}
 use Rattle.c_api.proofs.ReturnLaws.{for-c}
 use Rattle.c_api.proofs.allocation_notice.Statement.{statement}
 use Rattle.c_api.proofs.allocation_notice.Tie as tie
-use Rattle.c_api.proofs.allocation_notice.Reads as reads
-use Rattle.c_api.proofs.allocation_notice.Lts as lts
-use Rattle.notice.proofs.notice.Reads as notice-reads
-use Rattle.c_api.proofs.returned.Reads as returned-reads
 
 notice-requires : tie.Need-notice-requires
 notice-requires c κs = search needs

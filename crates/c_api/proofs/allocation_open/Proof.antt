@@ -3,10 +3,6 @@ use borrow.Author.Needs.{needs}
 use Rattle.c_api.proofs.ReturnLaws.{for-c}
 use Rattle.c_api.proofs.allocation_open.Statement.{statement}
 use Rattle.c_api.proofs.allocation_open.Tie as tie
-use Rattle.c_api.proofs.allocation_open.Reads as reads
-use Rattle.c_api.proofs.allocation_open.Lts as lts
-use Rattle.opening.proofs.open.Reads as open-reads
-use Rattle.c_api.proofs.returned.Reads as returned-reads
 
 open-requires : tie.Need-open-requires
 open-requires c κs = search needs

@@ -4,10 +4,6 @@ use borrow.Author.Needs.{needs}
 use Rattle.c_api.proofs.ReturnLaws.{for-c, run-fits}
 use Rattle.c_api.proofs.allocation_run.Statement.{statement}
 use Rattle.c_api.proofs.allocation_run.Tie as tie
-use Rattle.c_api.proofs.allocation_run.Reads as reads
-use Rattle.c_api.proofs.allocation_run.Lts as lts
-use Rattle.run.proofs.run.Reads as run-reads
-use Rattle.c_api.proofs.returned_run.Reads as returned-run-reads
 
 run-requires : tie.Need-run-requires
 run-requires c κs = search needs

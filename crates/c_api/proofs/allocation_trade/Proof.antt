@@ -3,10 +3,6 @@ use borrow.Author.Needs.{needs}
 use Rattle.c_api.proofs.ReturnLaws.{for-c}
 use Rattle.c_api.proofs.allocation_trade.Statement.{statement}
 use Rattle.c_api.proofs.allocation_trade.Tie as tie
-use Rattle.c_api.proofs.allocation_trade.Reads as reads
-use Rattle.c_api.proofs.allocation_trade.Lts as lts
-use Rattle.trade.proofs.trade.Reads as trade-reads
-use Rattle.c_api.proofs.returned.Reads as returned-reads
 
 trade-requires : tie.Need-trade-requires
 trade-requires c κs = search needs

@@ -3,10 +3,6 @@ use borrow.Author.Needs.{needs}
 use Rattle.c_api.proofs.ReturnLaws.{fits-ran, returned-ran}
 use Rattle.c_api.proofs.returned_run.Statement.{statement}
 use Rattle.c_api.proofs.returned_run.Tie as tie
-use Rattle.c_api.proofs.returned_run.Reads as reads
-use Rattle.c_api.proofs.returned_run.Lts as lts
-use Rattle.c_api.proofs.number.Reads as number-reads
-use Rattle.c_api.proofs.returned_counts.Reads as returned-counts-reads
 
 enum-known-answer : tie.Need-enum-known-answer
 enum-known-answer c = search needs

@@ -1,8 +1,8 @@
 -- `matched::write_next` meets its contract. Assumes nothing.
-use mathlib.Core.Path.{refl, _∙_}
+use mathlib.Core.Path.{refl}
 use native.Mathlib.Omega.{arith}
 use borrow.Author.Needs.{needs}
-use lib.ListN.{length-set}
+use Rattle.matched.proofs.FillLaws.{lots-ask}
 use Rattle.matched.proofs.write_next.Statement.{statement}
 use Rattle.matched.proofs.write_next.Tie as tie
 
@@ -39,38 +39,17 @@ mul-amount-2 c = search needs
 element-copy-out-amount : tie.Need-element-copy-out-amount
 element-copy-out-amount c = search needs
 
-use-lots-requires : tie.Need-use-lots-requires
-use-lots-requires c κs = search needs
-
-mul-lots : tie.Need-mul-lots
-mul-lots c = search needs
-
-slice-read-lots : tie.Need-slice-read-lots
-slice-read-lots c = search needs
-
-add-lots : tie.Need-add-lots
-add-lots c = search needs
-
-mul-lots-2 : tie.Need-mul-lots-2
-mul-lots-2 c = search needs
-
-slice-write-lots : tie.Need-slice-write-lots
-slice-write-lots c = search needs
-
 write-match-requires : tie.Need-write-match-requires
 write-match-requires c κs = search needs
-
-write-lines-requires : tie.Need-write-lines-requires
-write-lines-requires c κs = search needs
 
 move-yen-requires : tie.Need-move-yen-requires
 move-yen-requires c κs = search needs
 
-move-lots-requires : tie.Need-move-lots-requires
-move-lots-requires c κs = record { cells = c .before .before .before .before .move-yen .ensures .size ∙ c .before .before .before .before .before .before .before .before .before .before .before .before .before .before .before .before .before .before .before .before .before .before .before .before .before .before .before .before .before .before .before .before .pre .book; deliverer = c .before .before .before .before .before .before .before .before .before .before .before .before .before .before .before .before .before .before .before .before .before .before .before .before .before .before .before .before .before .before .before .before .pre .deliverer; receiver = c .before .before .before .before .before .before .before .before .before .before .before .before .before .before .before .before .before .before .before .before .before .before .before .before .before .before .before .before .before .before .before .before .pre .receiver; apart = c .before .before .before .before .before .before .before .before .before .before .before .before .before .before .before .before .before .before .before .before .before .before .before .before .before .before .before .before .before .before .before .before .pre .apart; few = simp length-set (c .before .before .before .before .before .before .before .before .before .before .before .before .before .before .before .before .before .before .before .before .before .before .before .before .before .before .before .before .before .before .before .before .pre .few) }
+write-lots-requires : tie.Need-write-lots-requires
+write-lots-requires c κs = lots-ask (c .before .before .before .before .before .before .before .before .before .before .before .before .before .before .before .before .before .before .before .before .before .pre .lots-asked) (c .before .before .before .before .before .before .move-yen .ensures .size)
 
-add-t23 : tie.Need-add-t23
-add-t23 c = omega (arith, c .before .before .before .before .before .before .before .before .before .before .before .before .before .before .before .before .before .before .before .before .before .before .before .before .before .before .before .before .before .before .before .before .before .before .before .before .pre .match-few)
+add-t16 : tie.Need-add-t16
+add-t16 c = omega (arith, c .before .before .before .before .before .before .before .before .before .before .before .before .before .before .before .before .before .before .before .before .before .before .before .before .before .before .before .before .before .before .before .pre .match-few)
 
 same-length : tie.Need-same-length
 same-length c = search needs
@@ -88,15 +67,17 @@ same-length-5 : tie.Need-same-length-5
 same-length-5 c = search needs
 
 returns : tie.Need-returns
-returns c = record {
-  gone = c .before .before .before .before .before .before .before .before .before .before .before .before .before .before .before .before .before .before .before .before .before .before .before .use-lots .ensures;
-  entry = c .before .before .before .before .before .before .before .before .before .before .before .before .before .before .before .before .before .write-match .ensures;
-  matched = refl;
-  listed = c .before .before .before .before .before .before .before .before .before .before .before .before .write-lines .ensures;
-  between = c .before .before .before .before .before .before .before .before .move-yen .last .0;
-  yen = c .before .before .before .before .before .before .before .before .move-yen .ensures;
-  moved = c .before .before .before .move-lots .ensures;
-}
+returns c =
+    let w = c .before .before .before .before .before .before .before .before .before .write-lots .ensures in
+    record {
+      gone = w .gone;
+      entry = c .before .before .before .before .before .before .before .before .before .before .before .before .before .before .before .before .before .before .before .before .write-match .ensures;
+      matched = refl;
+      listed = w .listed;
+      between = c .before .before .before .before .before .before .before .before .before .before .before .before .before .before .before .before .move-yen .last .0;
+      yen = c .before .before .before .before .before .before .before .before .before .before .before .before .before .before .before .before .move-yen .ensures;
+      moved = w .moved;
+    }
 
 pub write-next-spec : {M : Type 1} → statement M
 write-next-spec =
@@ -113,17 +94,10 @@ write-next-spec =
     add-amount
     mul-amount-2
     element-copy-out-amount
-    use-lots-requires
-    mul-lots
-    slice-read-lots
-    add-lots
-    mul-lots-2
-    slice-write-lots
     write-match-requires
-    write-lines-requires
     move-yen-requires
-    move-lots-requires
-    add-t23
+    write-lots-requires
+    add-t16
     same-length
     same-length-2
     same-length-3

@@ -1,39 +1,34 @@
 -- `notice::all_distinct` meets its contract. Assumes nothing.
-use mathlib.Core.Path.{_≡_}
-use Prim.Native.Nat.{ℕ, _≤_, _-_}
+use Prim.Native.Nat.{_-_}
 use native.Mathlib.Omega.{arith}
-use lib.ListN.{length, getD}
-use mathlib.Core.Bool.{Bool, true, not}
-use mathlib.Core.List.{List}
-use lib.Dec.{eqb}
-use Rattle.lists.specs.Tests.{allBelow}
-use Rattle.rule.specs.Calls.{distinct}
-use Rattle.lists.proofs.TestLaws.{scan}
-use borrow.Author.Needs.{needs}
+use lib.ListN.{length}
+use Rattle.notice.proofs.NoticeLaws.{Marked, marked-none, marked-more, marked-twice, marked-all}
 use Rattle.notice.proofs.all_distinct.Statement.{statement}
 use Rattle.notice.proofs.all_distinct.Tie as tie
-use Rattle.notice.proofs.all_distinct.Reads as reads
-use Rattle.notice.proofs.all_distinct.Lts as lts
-use Rattle.notice.proofs.is_new.Reads as is-new-reads
-
-abbrev test : List ℕ → ℕ → Bool
-test named j = allBelow j (λ i. not (eqb (getD named i 0) (getD named j 0)))
 
 abbrev Inv-loop : tie.InvT-loop
-Inv-loop named j₀ j = (j ≤ length named) × (allBelow j (test named) ≡ true)
+Inv-loop named met₀ j₀ met j = Marked named met j
 
 abbrev μ-loop : tie.MeasureT-loop
-μ-loop named j₀ j = length named - j
+μ-loop named met₀ j₀ met j = length named - j
 
 loop-holds : tie.Need-loop-holds Inv-loop μ-loop
-loop-holds c = (omega arith, search (scan, needs))
+loop-holds c = marked-none _
 
-is-new-requires : tie.Need-is-new-requires Inv-loop μ-loop
-is-new-requires c κs = omega arith
+mul-issue : tie.Need-mul-issue Inv-loop μ-loop
+mul-issue c = omega arith
+
+shared-slice-read-issue : tie.Need-shared-slice-read-issue Inv-loop μ-loop
+shared-slice-read-issue c = omega arith
+
+array-read-if1 : tie.Need-array-read-if1 Inv-loop μ-loop
+array-read-if1 c = c .before .before .before .pre .below (c .before .before .loop .j) (omega arith)
 
 returns : tie.Need-returns Inv-loop μ-loop
-unfolding distinct
-returns c = search (scan, needs)
+returns c = marked-twice _ (omega arith) (c .before .before .before .before .pre .below (c .before .before .before .loop .j) (omega arith)) (c .before .before .before .loop .inv) (c .if1 .taken)
+
+array-write-met : tie.Need-array-write-met Inv-loop μ-loop
+array-write-met c = c .before .before .before .before .pre .below (c .before .before .before .loop .j) (omega arith)
 
 add-j : tie.Need-add-j Inv-loop μ-loop
 add-j c = omega arith
@@ -42,11 +37,10 @@ loop-less : tie.Need-loop-less Inv-loop μ-loop
 loop-less c = omega arith
 
 loop-again : tie.Need-loop-again Inv-loop μ-loop
-loop-again c = (omega arith, search (scan, needs))
+loop-again c = marked-more _ (omega arith) (c .before .before .before .before .pre .below (c .before .before .before .loop .j) (omega arith)) (c .before .before .before .loop .inv) (c .if1 .left)
 
 returns-2 : tie.Need-returns-2 Inv-loop μ-loop
-unfolding distinct
-returns-2 c = search (scan, needs)
+returns-2 c = marked-all _ (omega arith) (c .before .loop .inv)
 
 pub all-distinct-spec : {M : Type 1} → statement M
 all-distinct-spec =
@@ -55,8 +49,11 @@ all-distinct-spec =
     Inv-loop
     μ-loop
     loop-holds
-    is-new-requires
+    mul-issue
+    shared-slice-read-issue
+    array-read-if1
     returns
+    array-write-met
     add-j
     loop-less
     loop-again

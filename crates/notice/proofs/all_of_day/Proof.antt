@@ -12,8 +12,6 @@ use borrow.Author.Tests.{le-ltb}
 use borrow.Author.Needs.{needs}
 use Rattle.notice.proofs.all_of_day.Statement.{statement}
 use Rattle.notice.proofs.all_of_day.Tie as tie
-use Rattle.notice.proofs.all_of_day.Reads as reads
-use Rattle.notice.proofs.all_of_day.Lts as lts
 
 abbrev test : List ℕ → ℕ → ℕ → Bool
 test named issues j = ltb (getD named j 0) issues

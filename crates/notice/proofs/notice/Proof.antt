@@ -9,10 +9,6 @@ use Rattle.rule.proofs.BookLaws.{sound-book}
 use Rattle.notice.specs.Checked.{noticeSound}
 use Rattle.notice.proofs.notice.Statement.{statement}
 use Rattle.notice.proofs.notice.Tie as tie
-use Rattle.notice.proofs.notice.Reads as reads
-use Rattle.notice.proofs.notice.Lts as lts
-use Rattle.notice.proofs.notice_sound.Reads as notice-sound-reads
-use Rattle.book.proofs.sound.sound.Reads as sound-reads
 
 sound-requires : tie.Need-sound-requires
 sound-requires c κs = search needs

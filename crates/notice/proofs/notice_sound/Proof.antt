@@ -12,15 +12,9 @@ use mathlib.Core.Bool.{true, false}
 use lib.Dec.{leb}
 use Rattle.rule.proofs.AnswerLaws.{answers}
 use Rattle.notice.specs.Checked.{noticeSound}
-use Rattle.notice.proofs.NoticeLaws.{few-no, few-yes, writable, accepted-notice}
+use Rattle.notice.proofs.NoticeLaws.{few-no, few-yes, markable, writable, accepted-notice}
 use Rattle.notice.proofs.notice_sound.Statement.{statement}
 use Rattle.notice.proofs.notice_sound.Tie as tie
-use Rattle.notice.proofs.notice_sound.Reads as reads
-use Rattle.notice.proofs.notice_sound.Lts as lts
-use Rattle.notice.proofs.all_distinct.Reads as all-distinct-reads
-use Rattle.notice.proofs.all_of_day.Reads as all-of-day-reads
-use Rattle.notice.proofs.write_notice.Reads as write-notice-reads
-use Rattle.ranges.proofs.row_at_most.Reads as row-at-most-reads
 
 slice-read-if1 : tie.Need-slice-read-if1
 slice-read-if1 c = search needs
@@ -55,7 +49,9 @@ unfolding noticeSound noticeChecks view
 returns-5 c = search (answers, flag-no, flag-yes, needs) depth 16
 
 all-distinct-requires : tie.Need-all-distinct-requires
-all-distinct-requires c κs = search needs
+all-distinct-requires c κs =
+    let s = c .before .before .before .before .before .before .before .before .before .before .before .before in
+    markable (s .args .book .now) (s .pre) (s .args .named .now) (flag-yes _ _ (c .before .all-of-day .ensures) (c .if5 .left))
 
 returns-6 : tie.Need-returns-6
 unfolding noticeSound noticeChecks view
@@ -74,8 +70,8 @@ returns-7 c =
 write-notice-requires : tie.Need-write-notice-requires
 write-notice-requires c κs =
     let s = c .before .before .before .before .before .before .before .before .before .before .before .before .before .before .before .before .before in
-    writable (s .args .book .now) (s .pre) (s .args .participant) (s .args .named .now) (s .args .lots .now) (c .before .before .before .before .before .before .before .before .before .before .if2 .left) (c .before .before .before .before .before .before .before .before .if4 .left)
-    (flag-yes _ _ (c .before .before .before .before .before .before .all-of-day .ensures) (c .before .before .before .before .before .if5 .left))
+    writable (s .args .book .now) (s .pre) (s .args .named .now) (flag-yes _ _ (c .before .before .before .before .before .before .all-of-day .ensures) (c .before .before .before .before .before .if5 .left))
+    (s .args .participant) (s .args .lots .now) (c .before .before .before .before .before .before .before .before .before .before .if2 .left) (c .before .before .before .before .before .before .before .before .if4 .left)
 
 same-length : tie.Need-same-length
 same-length c = search needs
@@ -88,8 +84,8 @@ returns-8 c =
     let l = s .args .lots .now in
     let few : allBelow (length l) (λ i. leb (getD l i 0) noticeLimit) ≡ true = few-yes l noticeLimit _ (c .before .before .before .before .before .row-at-most .ensures) (c .before .before .before .before .if7 .left) in
     let made : c .before .before .write-notice .last .0 ≡ stored b (noticed (view b) (s .args .participant) (s .args .named .now) l) =
-    accepted-notice b (s .pre) (s .args .participant) (s .args .named .now) l (c .before .before .before .before .before .before .before .before .before .before .before .before .before .if2 .left) (c .before .before .before .before .before .before .before .before .before .before .before .if4 .left)
-    (flag-yes _ _ (c .before .before .before .before .before .before .before .before .before .all-of-day .ensures) (c .before .before .before .before .before .before .before .before .if5 .left)) (c .before .before .before .before .before .before .before .before .before .before .before .before .before .before .before .if1 .left) few _ (c .before .before .write-notice .ensures) in
+    accepted-notice b (s .pre) (s .args .named .now) (flag-yes _ _ (c .before .before .before .before .before .before .before .before .before .all-of-day .ensures) (c .before .before .before .before .before .before .before .before .if5 .left))
+    (s .args .participant) l (c .before .before .before .before .before .before .before .before .before .before .before .before .before .if2 .left) (c .before .before .before .before .before .before .before .before .before .before .before .if4 .left) (c .before .before .before .before .before .before .before .before .before .before .before .before .before .before .before .if1 .left) few _ (c .before .before .write-notice .ensures) in
     search (answers, flag-yes, needs) depth 16
 
 pub notice-sound-spec : {M : Type 1} → statement M

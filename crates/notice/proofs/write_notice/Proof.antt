@@ -9,9 +9,6 @@ use Rattle.notice.proofs.NoticeLaws.{row-back}
 use borrow.Author.Needs.{needs}
 use Rattle.notice.proofs.write_notice.Statement.{statement}
 use Rattle.notice.proofs.write_notice.Tie as tie
-use Rattle.notice.proofs.write_notice.Reads as reads
-use Rattle.notice.proofs.write_notice.Lts as lts
-use Rattle.notice.proofs.write_row.Reads as write-row-reads
 
 slice-read-issues : tie.Need-slice-read-issues
 slice-read-issues c = search needs
@@ -42,7 +39,7 @@ write-row-requires c κs =
     let s = c .before .before .before .before .before in
     let b = s .args .book .now in
     let long : _ = part-length b (noticesAt + 32 * s .args .participant) (getD b 1 0) (omega (arith, s .pre .size, s .pre .sender, s .pre .most)) in
-    record { lengths = s .pre .entries .lengths; named = λ j l. omega (arith, s .pre .entries .named j l, long) }
+    record { lengths = s .pre .entries .lengths; named = record { below = λ j l. omega (arith, s .pre .entries .named .below j l, long) } }
 
 same-length : tie.Need-same-length
 same-length c = search needs

@@ -8,9 +8,6 @@ use Rattle.notice.proofs.NoticeLaws.{Entered, entered-none, entered-mor
 use borrow.Author.Needs.{needs}
 use Rattle.notice.proofs.write_row.Statement.{statement}
 use Rattle.notice.proofs.write_row.Tie as tie
-use Rattle.notice.proofs.write_row.Reads as reads
-use Rattle.notice.proofs.write_row.Lts as lts
-use Rattle.lists.proofs.clear.Reads as clear-reads
 
 abbrev Inv-loop : tie.InvT-loop
 Inv-loop row₀ named lots j₀ row j = Entered row₀ named lots row j
@@ -37,10 +34,10 @@ shared-slice-read-row : tie.Need-shared-slice-read-row Inv-loop μ-loop
 shared-slice-read-row c = omega (arith, c .before .before .before .before .before .before .before .before .before .before .before .pre .lengths)
 
 mul-row-2 : tie.Need-mul-row-2 Inv-loop μ-loop
-mul-row-2 c = omega (arith, c .before .before .before .before .before .before .before .before .before .before .before .pre .named (c .before .before .before .loop .j) (omega arith), ap length (c .before .before .before .before .before .before .clear .ensures), length-zeros (length (c .before .before .before .before .before .before .before .before .before .before .before .args .row .now)), c .before .before .before .loop .inv .size)
+mul-row-2 c = omega (arith, c .before .before .before .before .before .before .before .before .before .before .before .pre .named .below (c .before .before .before .loop .j) (omega arith), ap length (c .before .before .before .before .before .before .clear .ensures), length-zeros (length (c .before .before .before .before .before .before .before .before .before .before .before .args .row .now)), c .before .before .before .loop .inv .size)
 
 slice-write-row : tie.Need-slice-write-row Inv-loop μ-loop
-slice-write-row c = omega (arith, c .before .before .before .before .before .before .before .before .before .before .before .pre .named (c .before .before .before .loop .j) (omega arith), ap length (c .before .before .before .before .before .before .clear .ensures), length-zeros (length (c .before .before .before .before .before .before .before .before .before .before .before .args .row .now)), c .before .before .before .loop .inv .size)
+slice-write-row c = omega (arith, c .before .before .before .before .before .before .before .before .before .before .before .pre .named .below (c .before .before .before .loop .j) (omega arith), ap length (c .before .before .before .before .before .before .clear .ensures), length-zeros (length (c .before .before .before .before .before .before .before .before .before .before .before .args .row .now)), c .before .before .before .loop .inv .size)
 
 add-j : tie.Need-add-j Inv-loop μ-loop
 add-j c = omega arith

@@ -7,9 +7,6 @@ use Rattle.opening.proofs.CellLaws.{copied-length}
 use Rattle.opening.proofs.OpenLaws.{Marked, marked-none, marked-more, marked-all, room-at, room-from, square-small}
 use Rattle.opening.proofs.copy_marks.Statement.{statement}
 use Rattle.opening.proofs.copy_marks.Tie as tie
-use Rattle.opening.proofs.copy_marks.Reads as reads
-use Rattle.opening.proofs.copy_marks.Lts as lts
-use Rattle.opening.proofs.cells.copy_rows.Reads as copy-rows-reads
 
 abbrev Inv-loop : tie.InvT-loop
 Inv-loop book₀ participants pairs square k₀ at₀ from₀ book k at from = Marked book₀ participants pairs book square k at from

@@ -7,10 +7,6 @@ use Rattle.rule.proofs.SoundLaws.{sizes-of}
 use Rattle.opening.proofs.OpenLaws.{wrong-sizes, wrong-codes, wrong-terms, wrong-receipts, wrong-pairs, wrong-book, lengths, right-lengths}
 use Rattle.opening.proofs.open.Statement.{statement}
 use Rattle.opening.proofs.open.Tie as tie
-use Rattle.opening.proofs.open.Reads as reads
-use Rattle.opening.proofs.open.Lts as lts
-use Rattle.opening.proofs.open_lengths.Reads as open-lengths-reads
-use Rattle.ranges.proofs.sizes_fit.Reads as sizes-fit-reads
 
 sizes-fit-requires : tie.Need-sizes-fit-requires
 sizes-fit-requires c κs = search needs

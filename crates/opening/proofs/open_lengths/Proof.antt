@@ -13,14 +13,6 @@ use Rattle.opening.specs.Opened.{Lengths}
 use Rattle.opening.proofs.OpenLaws.{codes-same, wrong-code, wrong-term, wrong-receipt, wrong-pair, all-right}
 use Rattle.opening.proofs.open_lengths.Statement.{statement}
 use Rattle.opening.proofs.open_lengths.Tie as tie
-use Rattle.opening.proofs.open_lengths.Reads as reads
-use Rattle.opening.proofs.open_lengths.Lts as lts
-use Rattle.opening.proofs.widen.Reads as widen-reads
-use Rattle.opening.proofs.write_open.Reads as write-open-reads
-use Rattle.ranges.proofs.marks_fit.Reads as marks-fit-reads
-use Rattle.ranges.proofs.rows_at_most.Reads as rows-at-most-reads
-use Rattle.ranges.proofs.terms_fit.Reads as terms-fit-reads
-use Rattle.isin.proofs.codes_right.Reads as codes-right-reads
 
 -- the codes that were looked at are the codes that were given
 codes : {n m : ℕ} {codes terms receipts pairs book : List ℕ} → Lengths n m codes terms receipts pairs book → (cells₀ cells : List ℕ)

@@ -6,9 +6,6 @@ use Rattle.opening.proofs.OpenLaws.{Widened, widened-none, widened-more
 use borrow.Author.Needs.{needs}
 use Rattle.opening.proofs.widen.Statement.{statement}
 use Rattle.opening.proofs.widen.Tie as tie
-use Rattle.opening.proofs.widen.Reads as reads
-use Rattle.opening.proofs.widen.Lts as lts
-use Rattle.lists.proofs.wide.Reads as wide-reads
 
 abbrev Inv-loop : tie.InvT-loop
 Inv-loop codes cells₀ i₀ cells i = Widened codes cells₀ cells i

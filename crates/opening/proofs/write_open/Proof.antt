@@ -5,11 +5,6 @@ use Rattle.opening.proofs.OpenLaws.{length-cleared, codes-room, terms-r
 use borrow.Author.Needs.{needs}
 use Rattle.opening.proofs.write_open.Statement.{statement}
 use Rattle.opening.proofs.write_open.Tie as tie
-use Rattle.opening.proofs.write_open.Reads as reads
-use Rattle.opening.proofs.write_open.Lts as lts
-use Rattle.lists.proofs.clear.Reads as clear-reads
-use Rattle.opening.proofs.cells.copy_rows.Reads as copy-rows-reads
-use Rattle.opening.proofs.copy_marks.Reads as copy-marks-reads
 
 clear-requires : tie.Need-clear-requires
 clear-requires c κs = search needs

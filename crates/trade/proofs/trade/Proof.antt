@@ -9,10 +9,6 @@ use Rattle.rule.proofs.BookLaws.{sound-book}
 use Rattle.trade.specs.Checked.{tradeSound}
 use Rattle.trade.proofs.trade.Statement.{statement}
 use Rattle.trade.proofs.trade.Tie as tie
-use Rattle.trade.proofs.trade.Reads as reads
-use Rattle.trade.proofs.trade.Lts as lts
-use Rattle.trade.proofs.trade_sound.Reads as trade-sound-reads
-use Rattle.book.proofs.sound.sound.Reads as sound-reads
 
 sound-requires : tie.Need-sound-requires
 sound-requires c κs = search needs

@@ -8,13 +8,6 @@ use Rattle.trade.specs.Checked.{tradeBetween}
 use Rattle.trade.proofs.TradeLaws.{movable, sold-is, bought-is, over, not-over, accepted-trade}
 use Rattle.trade.proofs.trade_between.Statement.{statement}
 use Rattle.trade.proofs.trade_between.Tie as tie
-use Rattle.trade.proofs.trade_between.Reads as reads
-use Rattle.trade.proofs.trade_between.Lts as lts
-use Rattle.trade.proofs.due_after.Reads as due-after-reads
-use Rattle.trade.proofs.owed_after.Reads as owed-after-reads
-use Rattle.trade.proofs.place.Reads as place-reads
-use Rattle.trade.proofs.write_trade.Reads as write-trade-reads
-use Rattle.book.proofs.sound.tradable.Reads as tradable-reads
 
 tradable-requires : tie.Need-tradable-requires
 tradable-requires c κs = search needs

@@ -6,9 +6,6 @@ use Rattle.rule.proofs.AnswerLaws.{answers}
 use Rattle.trade.specs.Checked.{tradeSound, tradeBetween}
 use Rattle.trade.proofs.trade_sound.Statement.{statement}
 use Rattle.trade.proofs.trade_sound.Tie as tie
-use Rattle.trade.proofs.trade_sound.Reads as reads
-use Rattle.trade.proofs.trade_sound.Lts as lts
-use Rattle.trade.proofs.trade_between.Reads as trade-between-reads
 
 slice-read-if1 : tie.Need-slice-read-if1
 slice-read-if1 c = search needs

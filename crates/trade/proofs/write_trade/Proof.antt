@@ -4,10 +4,6 @@ use borrow.Author.Needs.{needs}
 use Rattle.trade.proofs.TradeLaws.{moved, taken}
 use Rattle.trade.proofs.write_trade.Statement.{statement}
 use Rattle.trade.proofs.write_trade.Tie as tie
-use Rattle.trade.proofs.write_trade.Reads as reads
-use Rattle.trade.proofs.write_trade.Lts as lts
-use Rattle.std.proofs.num.wrapping_add_u64.Reads as wrapping-add-u64-reads
-use Rattle.std.proofs.num.wrapping_sub_u64.Reads as wrapping-sub-u64-reads
 
 mul-wrapping-add-u64 : tie.Need-mul-wrapping-add-u64
 mul-wrapping-add-u64 c = search needs

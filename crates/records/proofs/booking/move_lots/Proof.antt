@@ -1,6 +1,9 @@
 -- `records::booking::move_lots` meets its contract. Assumes nothing.
+use native.Mathlib.Omega.{arith}
+use lib.ListN.{length-set}
 use borrow.Author.Needs.{needs}
-use Rattle.records.proofs.BookingLaws.{lots-moved}
+use Rattle.records.specs.Booked.{tallyOf}
+use Rattle.records.proofs.BookingLaws.{issue-moved}
 use Rattle.records.proofs.booking.move_lots.Statement.{statement}
 use Rattle.records.proofs.booking.move_lots.Tie as tie
 
@@ -10,23 +13,8 @@ mul-from c = search needs
 add-from : tie.Need-add-from
 add-from c = search needs
 
-add-from-end : tie.Need-add-from-end
-add-from-end c = search needs
-
-mul-deliver : tie.Need-mul-deliver
-mul-deliver c = search needs
-
-sub-deliver : tie.Need-sub-deliver
-sub-deliver c = search needs
-
-part-deliver-start : tie.Need-part-deliver-start
-part-deliver-start c = search needs
-
-part-deliver-end : tie.Need-part-deliver-end
-part-deliver-end c = search needs
-
-deliver-requires : tie.Need-deliver-requires
-deliver-requires c κs = search needs
+add-from-2 : tie.Need-add-from-2
+add-from-2 c = search needs
 
 mul-to : tie.Need-mul-to
 mul-to c = search needs
@@ -34,29 +22,46 @@ mul-to c = search needs
 add-to : tie.Need-add-to
 add-to c = search needs
 
-add-to-end : tie.Need-add-to-end
-add-to-end c = search needs
+add-to-2 : tie.Need-add-to-2
+add-to-2 c = search needs
 
-mul-receive : tie.Need-mul-receive
-mul-receive c = search needs
+mul-wrapping-add-u64 : tie.Need-mul-wrapping-add-u64
+mul-wrapping-add-u64 c = search needs
 
-sub-receive : tie.Need-sub-receive
-sub-receive c = search needs
+slice-read-wrapping-add-u64 : tie.Need-slice-read-wrapping-add-u64
+slice-read-wrapping-add-u64 c = search needs
 
-part-receive-start : tie.Need-part-receive-start
-part-receive-start c = search needs
+wrapping-add-u64-requires : tie.Need-wrapping-add-u64-requires
+wrapping-add-u64-requires c κs = search needs
 
-part-receive-end : tie.Need-part-receive-end
-part-receive-end c = search needs
+mul-wrapping-sub-u64 : tie.Need-mul-wrapping-sub-u64
+mul-wrapping-sub-u64 c = search needs
 
-receive-requires : tie.Need-receive-requires
-receive-requires c κs = search needs
+slice-read-wrapping-sub-u64 : tie.Need-slice-read-wrapping-sub-u64
+slice-read-wrapping-sub-u64 c = search needs
+
+wrapping-sub-u64-requires : tie.Need-wrapping-sub-u64-requires
+wrapping-sub-u64-requires c κs = search needs
+
+mul-book : tie.Need-mul-book
+mul-book c = search needs
+
+slice-write-book : tie.Need-slice-write-book
+slice-write-book c = search needs
+
+mul-book-2 : tie.Need-mul-book-2
+mul-book-2 c = search needs
+
+slice-write-book-2 : tie.Need-slice-write-book-2
+slice-write-book-2 c = simp length-set (omega (arith, c .before .before .before .before .before .pre .cells, c .before .before .before .before .before .pre .receiver, c .before .before .before .before .before .pre .issue))
 
 same-length : tie.Need-same-length
 same-length c = search needs
 
 returns : tie.Need-returns
-returns c = lots-moved _ _ _ _ (c .before .before .before .before .before .before .before .before .before .before .pre) _ (c .before .before .before .before .before .before .deliver .ensures) _ (c .before .before .receive .ensures)
+returns c =
+    let s = c .before .before .before .before .before in
+    issue-moved _ _ _ _ _ _ _ (s .pre) (omega (arith, c .before .slice-known3 .given (tallyOf (s .args .receiver) (s .args .issue)))) (omega arith) (omega arith) (c .before .before .wrapping-add-u64 .ensures) (c .wrapping-sub-u64 .ensures)
 
 pub move-lots-spec : {M : Type 1} → statement M
 move-lots-spec =
@@ -64,19 +69,19 @@ move-lots-spec =
     (tie.spec
     mul-from
     add-from
-    add-from-end
-    mul-deliver
-    sub-deliver
-    part-deliver-start
-    part-deliver-end
-    deliver-requires
+    add-from-2
     mul-to
     add-to
-    add-to-end
-    mul-receive
-    sub-receive
-    part-receive-start
-    part-receive-end
-    receive-requires
+    add-to-2
+    mul-wrapping-add-u64
+    slice-read-wrapping-add-u64
+    wrapping-add-u64-requires
+    mul-wrapping-sub-u64
+    slice-read-wrapping-sub-u64
+    wrapping-sub-u64-requires
+    mul-book
+    slice-write-book
+    mul-book-2
+    slice-write-book-2
     same-length
     returns)

@@ -2,8 +2,7 @@
 use native.Mathlib.Omega.{arith}
 use lib.ListN.{getD, length-set}
 use borrow.Author.Needs.{needs}
-use Rattle.records.proofs.BookingLaws.{yen-moved}
-use Rattle.rows.proofs.RowLaws.{lowered}
+use Rattle.records.proofs.BookingLaws.{lowered, yen-moved}
 use Rattle.records.specs.Booked.{positionAt}
 use Rattle.records.proofs.booking.move_yen.Statement.{statement}
 use Rattle.records.proofs.booking.move_yen.Tie as tie
