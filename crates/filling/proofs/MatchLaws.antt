@@ -24,7 +24,7 @@ use Rattle.filling.specs.declared.Filling.{Filling}
 use Rattle.filling.proofs.RowLaws.{padded-zeros, length-row}
 use Rattle.filling.proofs.NothingLaws.{fill-none}
 use Rattle.filling.proofs.WalkLaws.{priced-of}
-use Rattle.value.proofs.TermLaws.{terms-length}
+use Rattle.value.proofs.TermLaws.{terms-length, terms-priced}
 use Rattle.forced.proofs.ChoiceLaws.{forced-inside}
 
 -- ---- nothing for an amount of 0
@@ -158,14 +158,7 @@ module _ {issues count : ℕ} {terms notified usable order rates lots : List ℕ
     (m : Matchable issues count terms notified usable order rates all amount lots) where
   pub fillable : Fillable issues count rates lots usable order amount
   fillable = record {
-    stock = record {
-      terms = termsIn issues terms;
-      sized = terms-length issues terms;
-      rated = m .rated;
-      issues-most = m .issues-most;
-      wide = m .wide;
-      usable-most = m .usable-most;
-    };
+    stock = record { priced = terms-priced issues terms (m .rated); issues-most = m .issues-most; wide = m .wide; usable-most = m .usable-most };
     empty = m .empty;
     named = m .named;
     amount-most = m .amount-most;

@@ -146,9 +146,9 @@ module _ {issues count : ℕ} {rates start usable order : List ℕ} {amount : �
     pub turn-ready : ((ts : List Terms) → length ts ≡ issues → Rates ts rates → Unmet pass (lotsOf (from ts) (getD order k 0)))
         → Ready pass rates lots usable (getD order k 0) reached amount
     turn-ready fresh =
-        let ts = f .stock .terms in
-        let sized = f .stock .sized in
-        let rated = f .stock .rated in
+        let ts = f .stock .priced .terms in
+        let sized = f .stock .priced .sized in
+        let rated = f .stock .priced .rated in
         ready ts usable o sized rated (f .stock .issues-most) (stands ts sized rated) (h .held ts sized rated) (f .named .inside k at) (h .below) (f .amount-most) (f .stock .usable-most _ (f .named .inside k at)) (fresh ts sized rated)
 
     module _ {lots′ : List ℕ} {r : Step} (t : Stepped pass (getD rates (getD order k 0) 0) lots usable (getD order k 0) reached amount lots′ r) where

@@ -7,10 +7,12 @@ use lib.ListN.{length, getD, take, length-append, length-take}
 use lib.Seq.{getD-take, length-take-le, take-append-le}
 use Rattle.lists.specs.Tables.{zeros}
 use Rattle.lists.specs.Order.{ranked}
-use Rattle.rule.specs.Value.{Terms}
+use Rattle.rule.specs.Value.{Terms, value}
 use Rattle.rule.specs.Filling.{worth}
-use Rattle.value.specs.Rated.{Rates, Termed, termsIn, Stocked}
-use Rattle.value.proofs.TermLaws.{terms-length}
+use Rattle.value.specs.Rate.{rate}
+use Rattle.value.specs.Rated.{Rates, Termed, termsIn, Stocked, Summable}
+use Rattle.value.proofs.SumLaws.{Summed, summable, sum-more}
+use Rattle.value.proofs.TermLaws.{terms-length, terms-priced}
 use Rattle.filling.specs.Match.{Matchable}
 use Rattle.filling.proofs.OnceLaws.{order-named}
 use Rattle.ordering.specs.Ordered.{Ordered, Orderable}
@@ -64,14 +66,7 @@ module _ {issues : ℕ} {terms : List ℕ} (day : Issues issues terms) where
           }
 
   pub stocked : {usable rates : List ℕ} → length usable ≡ 32 → Rates (termsIn issues terms) rates → ((i : ℕ) → i < 32 → getD usable i 0 ≤ 200_000_000) → Stocked issues usable rates
-  stocked w r u = record {
-    terms = termsIn issues terms;
-    sized = terms-length issues terms;
-    rated = r;
-    issues-most = day .most;
-    wide = w;
-    usable-most = λ i k. u i (omega (arith, day .most));
-  }
+  stocked w r u = record { priced = terms-priced issues terms r; issues-most = day .most; wide = w; usable-most = λ i k. u i (omega (arith, day .most)) }
 
   pub matchable : {notified usable order rates : List ℕ} {all amount count : ℕ} {key may : ℕ → ℕ} → length notified ≡ 32 → length usable ≡ 32
       → Rates (termsIn issues terms) rates → ((i : ℕ) → i < 32 → getD usable i 0 ≤ 200_000_000) → Ordered (length (take issues notified)) key may order count
@@ -92,3 +87,12 @@ module _ {issues : ℕ} {terms : List ℕ} (day : Issues issues terms) where
         order-named issues _ _ (q .live) _ (q .places) (day .most) (q .few) (q .cells);
     amount-most = a;
   }
+
+-- ---- what usable lots are worth, issue by issue
+
+module _ {issues : ℕ} {usable rates : List ℕ} (p : Stocked issues usable rates) {i : ℕ} (h : i < issues) where
+  pub value-asks : {sum : ℕ} → Summed issues usable rates sum i → Summable (getD rates i 0) (getD usable i 0) sum
+  value-asks s = summable (p .priced) h (p .issues-most) (p .usable-most i h) s
+
+  pub summed-more : {sum next : ℕ} → ((t : Terms) → getD rates i 0 ≡ rate t → next ≡ sum + value t (getD usable i 0)) → Summed issues usable rates sum i → Summed issues usable rates next (i + 1)
+  summed-more e s = sum-more (p .priced) h (omega (arith, p .wide, p .issues-most)) (value-asks s) e s

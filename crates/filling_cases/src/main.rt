@@ -12,10 +12,16 @@ mod words;
 ghost use mathlib.Core.Path.{_≡_};
 ghost use mathlib.Core.Bool.{true};
 ghost use Prim.Native.Nat.{ℕ, _+_, _*_, _≤_, _<_};
-ghost use lib.ListN.{getD};
+ghost use mathlib.Core.List.{List};
+ghost use lib.ListN.{length, getD, take};
+ghost use Rattle.rule.specs.Value.{Terms};
+ghost use Rattle.rule.specs.Filling.{worth as worthOf};
+ghost use Rattle.value.specs.Rated.{Rates, Stocked};
 ghost use Rattle.filling_cases.specs.Ranges.{Issues, Fit};
 use filling::Filling;
+use rule::Lots;
 use rule::Yen;
+use value::Rate;
 
 // The numbers of an issue's terms that a value is made of are in their ranges.
 fn fits(price: u64, coupon: u64, days: u64) -> bool
@@ -86,6 +92,18 @@ fn show(name: &[u8], filled: Filling, lots: [u64; 32], issues: usize)
     io::write_all(1, b"\n");
 }
 
+// What all usable lots are worth.
+fn worth(usable: &[u64; 32], rates: &[u64; 32], issues: usize) -> Yen
+    requires { ⌜ Stocked issues (now usable) (now rates) ⌝ }
+    ensures { λ r. ⌜ ((ts : List Terms) → length ts ≡ issues → Rates ts (now (rates .entry)) → r .0 ≡ worthOf ts (take issues (now (usable .entry)))) ⌝ }
+{
+    let mut all = Yen(0);
+    for i in 0..issues {
+        all = value::add_value(all, Rate(rates[i]), Lots(usable[i]));
+    }
+    all
+}
+
 // Says whether the numbers are in their ranges: only then is a match filled. The order of the issues is worked out from the
 // notified lots, as a run does.
 fn case(
@@ -127,7 +145,7 @@ fn case(
         &usable,
         &mut order,
     );
-    let all = value::worth(&usable, &rates, issues);
+    let all = worth(&usable, &rates, issues);
     let mut lots = [0u64; 32];
     let r = filling::fill_match(
         runs,

@@ -10,26 +10,20 @@ use lib.Seq.{ext-getD, length-take-le, take-all, getD-take, getD-set-same, getD-
 use lib.Dec.{eqb}
 use Rattle.lists.specs.Tables.{table}
 use Rattle.lists.specs.Parts.{block}
-use Rattle.lists.proofs.TestLaws.{pick-elim}
 use Rattle.lists.proofs.TableLaws.{length-table, getD-table}
 use Rattle.lists.proofs.PartLaws.{block-get, length-block, part-is, part-length}
-use Rattle.rule.specs.Value.{Terms}
-use Rattle.rule.specs.Filling.{worth, Filled, filled, forcedIssue}
+use Rattle.rule.specs.Filling.{Filled, filled, forcedIssue}
 use Rattle.rule.specs.Layout.{termsAt, noticesAt}
-use Rattle.value.specs.Rated.{Rates, Stocked}
-use Rattle.value.proofs.TermLaws.{terms-length}
+use Rattle.value.proofs.TermLaws.{terms-length, terms-priced}
 use Rattle.filling.specs.Match.{Matchable, FilledAs}
 use Rattle.filling.specs.declared.Filling.{Filling}
 use Rattle.records.specs.Issues.{Used, IssuesWritable, IssuesWritten}
 use Rattle.stock.specs.Stock.{usableOf, Usable as RowUsable, Usables}
+use Rattle.stock.proofs.StockLaws.{usable-most}
 use Rattle.orders.specs.Sizes.{issuesIn}
 use Rattle.matched.specs.Filled.{bookTerms, usableIn, UsableAsked, UsableLots, Fillable, filledIn, lotsWith, LotsWritable, LotsWritten}
 
 -- ---- what may be used
-
-usable-most : (inside allocable used c : ℕ) → allocable ≤ c → usableOf inside allocable used ≤ c
-unfolding usableOf
-usable-most inside allocable used c h = pick-elim (λ (x : ℕ). x ≤ c) (eqb inside 1) (allocable - used) 0 (omega arith) (omega arith)
 
 module _ {b cells : List ℕ} {j : ℕ} {rates inside allocable used usable₀ : List ℕ} (h : UsableAsked b cells j rates inside allocable used usable₀) where
   abbrev m : ℕ
@@ -47,16 +41,18 @@ module _ {b cells : List ℕ} {j : ℕ} {rates inside allocable used usable₀ :
   lent : (xs : List ℕ) (i : ℕ) → i < m → getD (take (at + m - at) (drop at xs)) i 0 ≡ getD xs (at + i) 0
   lent xs i l = ap (λ (p : List ℕ). getD p i 0) (part-is xs at m) ∙ block-get xs at m i l
 
-  pub usable-asks : RowUsable inside (take (at + m - at) (drop at allocable)) (take (at + m - at) (drop at used)) m usable₀
+  pub usable-asks : RowUsable inside (take (at + m - at) (drop at allocable)) (take (at + m - at) (drop at used)) rates m usable₀
   usable-asks = record {
     few = h .sized .issues;
     stock = omega (arith, part-length allocable at m stock-fits);
     gone = omega (arith, part-length used at m gone-fits);
+    allocable-most = λ i l. omega (arith, lent allocable i l, h .allocable-most i l);
     enough = λ i l e. omega (arith, lent used i l, lent allocable i l, h .enough i l e);
+    priced = terms-priced m (block b termsAt 192) (h .rated);
     wide = h .wide;
   }
 
-  module _ {usable : List ℕ} (w : Usables inside (take (at + m - at) (drop at allocable)) (take (at + m - at) (drop at used)) m usable) where
+  module _ {usable : List ℕ} {all : ℕ} (w : Usables inside (take (at + m - at) (drop at allocable)) (take (at + m - at) (drop at used)) rates m usable all) where
     abbrev f : ℕ → ℕ
     f i = usableOf (getD inside i 0) (getD allocable (at + i) 0) (getD used (at + i) 0)
 
@@ -72,18 +68,8 @@ module _ {b cells : List ℕ} {j : ℕ} {rates inside allocable used usable₀ :
     most : (i : ℕ) → i < m → getD usable i 0 ≤ 200_000_000
     most i l = omega (arith, cell-is i l, usable-most (getD inside i 0) (getD allocable (at + i) 0) (getD used (at + i) 0) 200_000_000 (h .allocable-most i l))
 
-    pub worth-asks : Stocked m usable rates
-    worth-asks = record {
-      terms = bookTerms b;
-      sized = terms-length m (block b termsAt 192);
-      rated = h .rated;
-      issues-most = h .sized .issues;
-      wide = w .wide;
-      usable-most = most;
-    }
-
-    pub usable-are : {all : ℕ} → ((ts : List Terms) → length ts ≡ m → Rates ts rates → all ≡ worth ts (take m usable)) → UsableLots b cells j inside allocable used usable all
-    usable-are g = record { wide = w .wide; row = row-is; most = most; worth-is = g (bookTerms b) (terms-length m (block b termsAt 192)) (h .rated) }
+    pub usable-are : UsableLots b cells j inside allocable used usable all
+    usable-are = record { wide = w .wide; row = row-is; most = most; worth-is = w .worth-is (bookTerms b) (terms-length m (block b termsAt 192)) (h .rated) }
 
 -- ---- filling
 

@@ -80,10 +80,10 @@ pub fn usable_lots(
         inside,
         &allocable[at..end],
         &used[at..end],
+        rates,
         issues,
-        &mut *usable,
-    );
-    value::worth(&*usable, rates, issues)
+        usable,
+    )
 }
 
 // Match j, filled with what it may use.

@@ -2,15 +2,17 @@
 use mathlib.Core.Path.{_≡_}
 use mathlib.Core.List.{List}
 use Prim.Native.Nat.{ℕ, _+_, _-_, _*_, _≤_, _<_}
-use lib.ListN.{length, getD}
+use lib.ListN.{length, getD, take}
 use lib.Dec.{eqb}
 use Rattle.lists.specs.Tests.{pick}
 use Rattle.lists.specs.Parts.{block}
 use Rattle.rule.specs.Value.{Terms}
 use Rattle.rule.specs.Baskets.{within}
 use Rattle.rule.specs.Allocable.{allocable}
+use Rattle.rule.specs.Filling.{worth}
 use Rattle.rule.specs.Day.{termsOf}
 use Rattle.rule.specs.Layout.{bookLength, termsAt, receiptsAt, noticesAt}
+use Rattle.value.specs.Rated.{Rates, Priced}
 
 -- issue i's terms in the book
 unfoldable pub termsIn : List ℕ → ℕ → Terms
@@ -55,15 +57,18 @@ pub record Allocable (b cells : List ℕ) : Type 0 where
 pub record Enough (inside allocable used : ℕ) : Type 0 where
   pub enough : inside ≡ 1 → used ≤ allocable
 
--- allocable quantities and used lots of each issue, and no more of the basket's issues used than allocable
-pub record Usable (inside allocable used : List ℕ) (issues : ℕ) (row : List ℕ) : Type 0 where
+-- allocable quantities and used lots of each issue, no more of the basket's issues used than allocable, and their rates
+pub record Usable (inside allocable used rates : List ℕ) (issues : ℕ) (row : List ℕ) : Type 0 where
   pub few : issues ≤ 32
   pub stock : issues ≤ length allocable
   pub gone : issues ≤ length used
+  pub allocable-most : (i : ℕ) → i < issues → getD allocable i 0 ≤ 200_000_000
   pub enough : (i : ℕ) → i < issues → getD inside i 0 ≡ 1 → getD used i 0 ≤ getD allocable i 0
+  pub priced : Priced issues rates
   pub wide : length row ≡ 32
 
--- what may be used of each issue
-pub record Usables (inside allocable used : List ℕ) (issues : ℕ) (row : List ℕ) : Type 0 where
+-- what may be used of each issue, and what all of it is worth
+pub record Usables (inside allocable used rates : List ℕ) (issues : ℕ) (row : List ℕ) (all : ℕ) : Type 0 where
   pub wide : length row ≡ 32
   pub each : (i : ℕ) → i < issues → getD row i 0 ≡ usableOf (getD inside i 0) (getD allocable i 0) (getD used i 0)
+  pub worth-is : (ts : List Terms) → length ts ≡ issues → Rates ts rates → all ≡ worth ts (take issues row)

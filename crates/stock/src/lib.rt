@@ -3,6 +3,8 @@ ghost use mathlib.Core.Path.{_≡_};
 ghost use Rattle.rows.specs.Rows.{Becomes};
 ghost use Rattle.stock.specs.Stock.{allocableIn, insideOf, usableOf, Issues, Row, Rows, Allocable, Enough, Usable, Usables};
 use rule::Lots;
+use rule::Yen;
+use value::Rate;
 
 // A participant's allocable quantities.
 fn allocable_row(book: &[u64], participant: usize, row: &mut [u64])
@@ -63,18 +65,23 @@ fn usable(inside: u64, allocable: Lots, used: Lots) -> Lots
     Lots(allocable.0 - used.0)
 }
 
+// What may be used of each issue, into a lent row, and what all of it is worth.
 pub fn usable_row(
     inside: &[u64; 32],
     allocable: &[u64],
     used: &[u64],
+    rates: &[u64; 32],
     issues: usize,
     row: &mut [u64; 32],
-)
-    requires { ⌜ Usable (now inside) (now allocable) (now used) issues (now row) ⌝ }
-    ensures { λ _. ⌜ Usables (now (inside .entry)) (now (allocable .entry)) (now (used .entry)) issues (now (row .exit)) ⌝ }
+) -> Yen
+    requires { ⌜ Usable (now inside) (now allocable) (now used) (now rates) issues (now row) ⌝ }
+    ensures { λ r. ⌜ Usables (now (inside .entry)) (now (allocable .entry)) (now (used .entry)) (now (rates .entry)) issues (now (row .exit)) (r .0) ⌝ }
 {
+    let mut all = Yen(0);
     for i in 0..issues {
         let lots = usable(inside[i], Lots(allocable[i]), Lots(used[i]));
         row[i] = lots.0;
+        all = value::add_value(all, Rate(rates[i]), lots);
     }
+    all
 }

@@ -19,12 +19,15 @@ use Rattle.rule.specs.Day.{termsOf}
 use Rattle.rule.specs.Sound.{termsFit, allTermsFit}
 use Rattle.value.specs.Rate.{rate, Quoted}
 use Rattle.value.proofs.RateLaws.{rate-most}
-use Rattle.value.specs.Rated.{Rated, Rates, Termed, termsIn}
+use Rattle.value.specs.Rated.{Rated, Rates, Priced, Termed, termsIn}
 
 module _ (issues : ℕ) (terms : List ℕ) where
   pub terms-length : length (termsIn issues terms) ≡ issues
   unfolding termsIn
   terms-length = length-map (grid terms 0 6 issues 6) termsOf ∙ length-table issues (λ p. block terms (0 + 6 * p) 6)
+
+  pub terms-priced : {rates : List ℕ} → Rates (termsIn issues terms) rates → Priced issues rates
+  terms-priced r = record { terms = termsIn issues terms; sized = terms-length; rated = r }
 
   module _ (i : ℕ) (h : i < issues) where
     -- the six cells of issue i

@@ -6,7 +6,7 @@ use lib.ListN.{length, getD}
 use Rattle.lists.specs.Parts.{grid}
 use Rattle.rule.specs.Value.{Terms, noTerms}
 use Rattle.rule.specs.Day.{termsOf}
-use Rattle.value.specs.Rate.{rate, Quoted}
+use Rattle.value.specs.Rate.{rate, Quoted, Valuable}
 
 -- the terms of the day's issues, from six cells to an issue
 unfoldable pub termsIn : ℕ → List ℕ → List Terms
@@ -30,11 +30,22 @@ pub record Termed (issues : ℕ) (terms rates : List ℕ) : Type 0 where
   pub priced : (i : ℕ) → i < issues → 1000 ≤ getD terms (6 * i + 1) 0
   pub quoted : (i : ℕ) → i < issues → Quoted (getD terms (6 * i + 1) 0) (getD terms (6 * i + 2) 0) (getD terms (6 * i + 3) 0)
 
--- the day's issues: what may be used of each, and its rate, which is that of some terms
-pub record Stocked (issues : ℕ) (usable rates : List ℕ) : Type 0 where
+-- the rates are those of some terms, one for each issue
+pub record Priced (issues : ℕ) (rates : List ℕ) : Type 0 where
   pub terms : List Terms
   pub sized : length terms ≡ issues
   pub rated : Rates terms rates
+
+-- what may be used of each issue, and its rate
+pub record Stocked (issues : ℕ) (usable rates : List ℕ) : Type 0 where
+  pub priced : Priced issues rates
   pub issues-most : issues ≤ 32
   pub wide : length usable ≡ 32
   pub usable-most : (i : ℕ) → i < issues → getD usable i 0 ≤ 200_000_000
+
+-- lots whose value is added to a sum
+pub record Summable (w lots sum : ℕ) : Type 0 where
+  pub terms : Terms
+  pub rated : w ≡ rate terms
+  pub valuable : Valuable w lots
+  pub sum-most : sum ≤ 100_000_000_000_000_000

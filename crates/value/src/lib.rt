@@ -1,12 +1,9 @@
 // The valuation: the one place where lots become yen and yen become lots.
 ghost use mathlib.Core.Path.{_≡_};
-ghost use mathlib.Core.List.{List};
 ghost use Prim.Native.Nat.{ℕ, _+_, _≤_, _<_};
-ghost use lib.ListN.{length, take};
 ghost use Rattle.rule.specs.Value.{Terms, value as valueOf, fewest as fewestOf, most as mostOf};
-ghost use Rattle.rule.specs.Filling.{worth as worthOf};
 ghost use Rattle.value.specs.Rate.{rate as rateOf, Quoted, Valuable, Payable};
-ghost use Rattle.value.specs.Rated.{Rates, Termed, termsIn, Stocked};
+ghost use Rattle.value.specs.Rated.{Rates, Termed, termsIn, Summable};
 use rule::Lots;
 use rule::Yen;
 
@@ -72,17 +69,14 @@ pub fn rates_of(terms: &[u64], issues: usize, rates: &mut [u64; 32])
     }
 }
 
-// What all usable lots are worth.
-pub fn worth(usable: &[u64; 32], rates: &[u64; 32], issues: usize) -> Yen
-    requires { ⌜ Stocked issues (now usable) (now rates) ⌝ }
-    ensures { λ r. ⌜ ((ts : List Terms) → length ts ≡ issues → Rates ts (now (rates .entry)) → r .0 ≡ worthOf ts (take issues (now (usable .entry)))) ⌝ }
+// A sum of values, and the value of so many lots. Of no lots it is not worked out.
+pub fn add_value(sum: Yen, rate: Rate, lots: Lots) -> Yen
+    requires { ⌜ Summable (rate .0) (lots .0) (sum .0) ⌝ }
+    ensures { λ r. ⌜ ((t : Terms) → rate .0 ≡ rateOf t → r .0 ≡ sum .0 + valueOf t (lots .0)) ⌝ }
 {
-    let mut sum: u64 = 0;
-    for i in 0..issues {
-        if usable[i] > 0 {
-            let part = value(Rate(rates[i]), Lots(usable[i]));
-            sum = sum + part.0;
-        }
+    if lots.0 == 0 {
+        return sum;
     }
-    Yen(sum)
+    let part = value(rate, lots);
+    Yen(sum.0 + part.0)
 }

@@ -1,6 +1,6 @@
 -- `matched::usable_lots` meets its contract. Assumes nothing.
 use borrow.Author.Needs.{needs}
-use Rattle.matched.proofs.FillLaws.{usable-asks, worth-asks, usable-are}
+use Rattle.matched.proofs.FillLaws.{usable-asks, usable-are}
 use Rattle.matched.proofs.usable_lots.Statement.{statement}
 use Rattle.matched.proofs.usable_lots.Tie as tie
 
@@ -49,11 +49,8 @@ part-usable-row-end-2 c = search needs
 usable-row-requires : tie.Need-usable-row-requires
 usable-row-requires c κs = usable-asks (c .before .before .before .before .before .before .before .before .pre)
 
-worth-requires : tie.Need-worth-requires
-worth-requires c κs = worth-asks (c .before .before .before .before .before .before .before .before .before .before .pre) (c .before .usable-row .ensures)
-
 returns : tie.Need-returns
-returns c = usable-are (c .before .before .before .before .before .before .before .before .before .before .before .pre) (c .before .before .usable-row .ensures) (c .worth .ensures)
+returns c = usable-are (c .before .before .before .before .before .before .before .before .before .pre) (c .usable-row .ensures)
 
 pub usable-lots-spec : {M : Type 1} → statement M
 usable-lots-spec =
@@ -74,5 +71,4 @@ usable-lots-spec =
     part-usable-row-start-2
     part-usable-row-end-2
     usable-row-requires
-    worth-requires
     returns)
