@@ -6,15 +6,15 @@ use native.Mathlib.Numerals.{add-one}
 use native.Mathlib.Omega.{arith}
 use borrow.Author.Needs.{needs}
 use borrow.Rule.Slice.PartMut.{putMid}
-use mathlib.Core.List.{List, [], _∷_, _++_, map, append-nil}
+use mathlib.Core.List.{List, [], map}
 use lib.ListN.{length, getD, take, drop, length-append, length-map}
-use lib.Seq.{take-all, take-suc}
+use lib.Seq.{take-all}
 use Rattle.lists.specs.Tables.{row}
 use Rattle.lists.specs.Folds.{joined}
 use Rattle.lists.specs.Parts.{block, grid, over}
-use Rattle.lists.proofs.AppendLaws.{joined-append, over-none, over-more}
+use Rattle.lists.proofs.AppendLaws.{over-none, over-more, joined-more, joined-rows}
 use Rattle.lists.proofs.TableLaws.{length-table, getD-table, getD-map}
-use Rattle.lists.proofs.PartLaws.{part-length, part-back, length-over, Shape, grid-shape}
+use Rattle.lists.proofs.PartLaws.{part-length, part-back, length-block, length-over, Shape, grid-shape}
 use Rattle.rule.specs.Calls.{Reply, accepted, refused, closeChecks, tomorrowReceipts, tomorrowPairs}
 use Rattle.rule.specs.Layout.{tallyAt, todayAt, plus, cube, view}
 use Rattle.rule.proofs.LayoutLaws.{map-shape}
@@ -23,11 +23,6 @@ use Rattle.rule.proofs.BookLaws.{SoundBook}
 use Rattle.close.specs.Closed.{Gathers, ReceiptsFit, PairsFit, receiptsWritten, pairsWritten, closeSound}
 
 -- ---- rows written one after the other
-
-joined-more : (rows : List (List ℕ)) (p : ℕ) → p < length rows → joined (take (suc p) rows) ≡ joined (take p rows) ++ row rows p
-joined-more rows p l =
-    ap joined (take-suc rows p [] l) ∙ joined-append (take p rows) (row rows p ∷ [])
-    ∙ ap (λ (r : List ℕ). joined (take p rows) ++ r) (append-nil (row rows p))
 
 module _ (rows : List (List ℕ)) (n w : ℕ) (s : Shape rows n w) where
   length-part : (p : ℕ) → p ≤ n → length (joined (take p rows)) ≡ w * p
@@ -153,6 +148,17 @@ module _ (cells : List ℕ) (at n : ℕ) (b : List ℕ) (from : ℕ) (g : Gather
 
   pub squared-all : {c : List ℕ} {p to o : ℕ} → Squared cells at n b from c p to o → n ≤ p → c ≡ over cells at (joined (grid b from 12 n n))
   squared-all h l = filled-all cells at n n (grid b from 12 n n) from 12 square-shape (g .room) h l
+
+  -- rows that stand one after the other are copied as one
+  module _ (e : n ≡ 12) where
+    pub square-fits : from + n * n ≤ length b
+    square-fits = omega (arith, g .rows, ap (λ (k : ℕ). k * n) e)
+
+    pub squared-joined : (part : List ℕ) → part ≡ block b from (length (take (at + n * n - at) (drop at cells))) → putMid at (at + n * n - at) cells part ≡ over cells at (joined (grid b from 12 n n))
+    squared-joined part q =
+        let whole : part ≡ block b from (n * n) = q ∙ ap (block b from) (part-length cells at (n * n) (g .room)) in
+        part-back cells at (n * n) part (ap length whole ∙ length-block b from (n * n) square-fits)
+        ∙ ap (over cells at) (whole ∙ sym (joined-rows b from n n) ∙ ap (λ (k : ℕ). joined (grid b from k n n)) e)
 
 -- ---- today's marks, basket by basket
 

@@ -29,11 +29,16 @@ fn write_receipts(book: &[u64], receipts: &mut [u64])
     }
 }
 
-// One basket's marks: n rows of n cells, one after the other.
+// One basket's marks: n rows of n cells, one after the other. Rows that stand so in the book too are copied as one.
 fn write_square(cells: &mut [u64], at: usize, n: usize, book: &[u64], from: usize)
     requires { ⌜ Gathers (now cells) at n (now book) from ⌝ }
     ensures { λ _. ⌜ now (cells .exit) ≡ over (now (cells .entry)) at (joined (grid (now (book .entry)) from 12 n n)) ⌝ }
 {
+    if n == layout::MOST_PARTICIPANTS {
+        let end = at + n * n;
+        lists::copy(&mut cells[at..end], book, from);
+        return;
+    }
     let mut p = 0;
     let mut to = at;
     let mut o = from;
