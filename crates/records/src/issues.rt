@@ -1,5 +1,5 @@
-// The issues of a filled match: of each that has lots they are booked, used and listed, all in one loop, for which issues have lots
-// is what a processor guesses wrong.
+// The issues of a filled match: the lots of each are booked, used and listed. One loop does all three, since a loop for each took
+// longer.
 ghost use Rattle.records.specs.Issues.{IssueWritable, IssueWritten, IssuesWritable, IssuesWritten};
 use crate::booking;
 use crate::listing;

@@ -94,10 +94,6 @@ module _ (b draw m₀ l₀ : List ℕ) (S : Start b draw m₀ l₀) (k : ℕ) (b
   next-allocated = last-of (Allocated (view b)) done next (part-every (view b) draw (Allocated (view b)) next-part (allocated (view b) draw (runnable b draw m₀ l₀ S)))
 
   -- what stands in the cells
-  pub next-basket : next .basket ≡ k
-  unfolding nextOf allocate
-  next-basket = refl
-
   pub next-deliverer : next .match .deliverer ≡ d
   unfolding nextOf allocate matchAt
   next-deliverer = refl
