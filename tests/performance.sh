@@ -1,5 +1,6 @@
 #!/usr/bin/env bash
-# The library against the fast reference: time on this machine, and instructions by callgrind. Prints two tables.
+# The library against the fast reference: time on this machine, and instructions by callgrind. Prints two tables, and fails where the library
+# has more instructions: these are the same on every run, where times are not.
 set -eu
 cd "$(dirname "$0")"
 . ./needs.sh
@@ -25,4 +26,5 @@ $bench names | while IFS=: read -r call name; do
     library=$(count "$name" library "allocation_$call")
     fast=$(count "$name" fast "*Fast*Allocation>::$call")
     echo "| $name | $library | $fast | $(awk "BEGIN { printf \"%.2f\", $library / $fast }") |"
+    [ "$library" -le "$fast" ] || { echo "$name: more instructions than the fast reference" >&2; exit 1; }
 done

@@ -94,6 +94,7 @@ filledIn b k cells j usable order count =
 abbrev pub lotsWith : Filling → List ℕ → List ℕ
 lotsWith f lots = set lots (f .forced) (getD lots (f .forced) 0 + f .«forced_lots» .0)
 
+-- a match's lots are to be written: two participants, room for the lines, and sums that 64 bits hold
 pub record LotsWritable (b used lines : List ℕ) (d r number first : ℕ) (f : Filling) (lots : List ℕ) : Type 0 where
   pub book : length b ≡ bookLength
   pub deliverer : d < 12
