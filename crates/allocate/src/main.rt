@@ -1,5 +1,6 @@
 // Runs days: with no argument a sample of our own, else each file that an argument names, `-` for standard input. What such a
 // file has and what is written for it is in docs/DAYFILE.md, which the comments quote.
+#![tactic(auto)]
 mod answers;
 mod calls;
 mod codes;

@@ -7,6 +7,7 @@
 // the amount is in yen. The terms are six to an issue, as in the book. Lots are by issue, the last row those that earlier
 // baskets used; a row has one number or more, and goes on with zeros. Numbers are digits alone, apart by blanks. Empty lines
 // and those that start with # count for nothing. A line that is no case is written after `no case: `.
+#![tactic(auto)]
 mod words;
 
 ghost use Rattle.std.specs.Prelude.{◌≡◌, true, ℕ, ◌+◌, ◌*◌, ◌≤◌, ◌<◌, List, length, get_or, take};

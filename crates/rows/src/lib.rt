@@ -1,4 +1,5 @@
 // Loops over one row of cells.
+#![tactic(auto)]
 ghost use Rattle.std.specs.Prelude.{◌≡◌, map, length};
 ghost use Rattle.lists.specs.Parts.{block, Fits};
 ghost use Rattle.rule.specs.Layout.{plus, minus};

@@ -1,3 +1,4 @@
 // A run on a sound book, basket by basket.
+#![tactic(auto)]
 mod basket;
 pub mod whole;
