@@ -8,7 +8,7 @@ ghost use Rattle.value.specs.Rated.{Rates, Termed, terms_in, Summable};
 use rule::{Lots, Yen};
 
 // What a lot is worth in 730ths of a yen, in which nothing is rounded.
-#[derive(Drop)]
+#[derive(Clone, Copy)]
 pub struct Rate(pub u64);
 
 // "5 × n × price, plus n × coupon × days ÷ 730", of one lot.

@@ -1,0 +1,9 @@
+-- `forced::most_notified` meets its contract. Assumes nothing.
+use Rattle.forced.proofs.ChoiceLaws.{BestDown}
+use Rattle.forced.proofs.most_notified.Given as goal
+
+abbrev pub invariant-loop-i : goal.invariant-loop-i
+invariant-loop-i l = BestDown l.issues l.terms l.kinds l.notified l.i l.best
+
+abbrev pub decreases-loop-i : goal.decreases-loop-i
+decreases-loop-i l = l.i
