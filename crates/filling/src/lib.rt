@@ -12,7 +12,7 @@ use rule::{Lots, Yen};
 use value::Rate;
 
 // What a match is worth after a turn, and whether it ends there: the amount is reached.
-#[derive(Drop)]
+#[derive(Clone, Copy)]
 struct Step {
     reached: Yen,
     ends: bool,
@@ -122,7 +122,7 @@ pub fn covered(amount: Yen, usable: Yen) -> Yen
 }
 
 // A match as it was filled, beside its lots: the covered amount, and the forced issue and lots, "both 0 if none".
-#[derive(Drop)]
+#[derive(Clone, Copy)]
 pub struct Filling {
     pub covered: Yen,
     pub forced: u64,

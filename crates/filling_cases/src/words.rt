@@ -1,7 +1,7 @@
 // The parts, words and numbers of a line: parts are apart by bars, words by blanks.
 ghost use Rattle.std.specs.Prelude.{◌≤◌, length};
 
-#[derive(Drop)]
+#[derive(Clone, Copy)]
 pub enum Number {
     Of(u64),
     None,

@@ -1,0 +1,23 @@
+-- `filling::fill_match` meets its contract. Assumes nothing.
+use Rattle.std.proofs.Common.{◌⊎◌, inl, inr, ltb-false, ltb-true, true, ⊎_elim}
+use Rattle.value.specs.Rated.{terms_in}
+use Rattle.value.proofs.TermLaws.{terms-length}
+use Rattle.filling.proofs.MatchLaws.{fillable, forcible, third-short, otherwise}
+use Rattle.filling.proofs.fill_match.Goals as goal
+
+pub force-requires : goal.force-requires
+force-requires c = forcible c.requires (ltb-true _ _ c.if-all-amount.true-raw)
+
+pub returns-then-all-amount : goal.returns-then-all-amount
+returns-then-all-amount c =
+    rw (third-short _ (terms_in c.args.issues c.args.terms.now) _ _ _ _ c.requires.all_is _ c.if-runs-ge2.true (ltb-true _ _ c.if-all-amount.true-raw))
+    c.force.ensures
+
+pub carry-requires : goal.carry-requires
+carry-requires c = fillable c.requires
+
+pub returns : goal.returns
+returns c =
+    let ts = terms_in c.args.issues c.args.terms.now in
+    rw (otherwise _ ts _ _ _ _ c.requires.all_is _ (⊎_elim (λ k. inr (ltb-false _ _ k.3.left)) (λ k. inl k.left) c.else-runs-ge2.branch))
+    (c.carry.ensures ts (terms-length c.args.issues c.args.terms.now) c.requires.rated c.requires.all_is)
