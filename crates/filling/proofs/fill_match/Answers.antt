@@ -1,5 +1,5 @@
 -- `filling::fill_match` meets its contract. Assumes nothing.
-use Rattle.std.proofs.Common.{◌⊎◌, inl, inr, ltb-false, ltb-true, true, ⊎_elim}
+use Rattle.std.proofs.Common.{◌⊎◌, inl, inr, ltb-true, true}
 use Rattle.value.specs.Rated.{terms_in}
 use Rattle.value.proofs.TermLaws.{terms-length}
 use Rattle.filling.proofs.MatchLaws.{fillable, forcible, third-short, otherwise}
@@ -19,5 +19,5 @@ carry-requires c = fillable c.requires
 pub returns : goal.returns
 returns c =
     let ts = terms_in c.args.issues c.args.terms.now in
-    rw (otherwise _ ts _ _ _ _ c.requires.all_is _ (⊎_elim (λ k. inr (ltb-false _ _ k.3.left)) (λ k. inl k.left) c.else-runs-ge2.branch))
+    rw (otherwise _ ts _ _ _ _ c.requires.all_is _ (elim c.else-runs-ge2.either [ inl h ↦ inr h.1 | inr h ↦ inl h ]))
     (c.carry.ensures ts (terms-length c.args.issues c.args.terms.now) c.requires.rated c.requires.all_is)

@@ -1,0 +1,63 @@
+-- `notice::notice_sound` meets its contract. Assumes nothing.
+use Rattle.std.proofs.Common.{◌≡◌, false, get_or, leb, length, rules, true}
+use Rattle.lists.proofs.TestLaws.{said-yes, flag-no, flag-yes}
+use Rattle.rule.specs.Calls.{notice_checks}
+use Rattle.rule.specs.Sound.{notice_limit}
+use Rattle.rule.specs.Day.{noticed}
+use Rattle.rule.specs.Layout.{view, stored}
+use Rattle.lists.specs.Tests.{all_below}
+use Rattle.rule.proofs.AnswerLaws.{answers}
+use Rattle.notice.specs.Checked.{notice_sound}
+use Rattle.notice.proofs.NoticeLaws.{few-no, few-yes, markable, writable, accepted-notice}
+use Rattle.notice.proofs.notice_sound.Goals as goal
+
+pub returns-then-book-ge3 : goal.returns-then-book-ge3
+unfolding notice_sound notice_checks view
+returns-then-book-ge3 c = search (answers, rules) depth 12
+
+pub returns-then-participant-book : goal.returns-then-participant-book
+unfolding notice_sound notice_checks view
+returns-then-participant-book c = search (answers, rules) depth 12
+
+pub returns-then-named-eq0 : goal.returns-then-named-eq0
+unfolding notice_sound notice_checks view
+returns-then-named-eq0 c = search (answers, rules) depth 12
+
+pub returns-then-named-lots : goal.returns-then-named-lots
+unfolding notice_sound notice_checks view
+returns-then-named-lots c = search (answers, rules) depth 12
+
+pub returns-then-not-all_of_day : goal.returns-then-not-all_of_day
+unfolding notice_sound notice_checks view
+returns-then-not-all_of_day c = search (answers, flag-no, flag-yes, rules) depth 16
+
+pub all_distinct-requires : goal.all_distinct-requires
+all_distinct-requires c =
+    markable c.args.book.now c.requires c.args.named.now (said-yes _ _ c.all_of_day.ensures c.if-not-all_of_day.false)
+
+pub returns-then-not-all_distinct : goal.returns-then-not-all_distinct
+unfolding notice_sound notice_checks view
+returns-then-not-all_distinct c = search (answers, flag-no, flag-yes, rules) depth 16
+
+pub returns-then-not-row_at_most : goal.returns-then-not-row_at_most
+unfolding notice_sound notice_checks view
+returns-then-not-row_at_most c =
+    let l = c.args.lots.now in
+    let many : all_below (length l) (λ i. leb (get_or l i 0) notice_limit) ≡ false = few-no l notice_limit _ c.row_at_most.ensures c.if-not-row_at_most.true-raw in
+    search (answers, flag-yes, rules) depth 16
+
+pub write_notice-requires : goal.write_notice-requires
+write_notice-requires c =
+    writable c.args.book.now c.requires c.args.named.now (said-yes _ _ c.all_of_day.ensures c.if-not-all_of_day.false)
+    c.args.participant c.args.lots.now c.if-participant-book.false c.if-named-lots.false
+
+pub returns : goal.returns
+unfolding notice_sound notice_checks view
+returns c =
+    let b = c.args.book.now in
+    let l = c.args.lots.now in
+    let few : all_below (length l) (λ i. leb (get_or l i 0) notice_limit) ≡ true = few-yes l notice_limit _ c.row_at_most.ensures c.if-not-row_at_most.false-raw in
+    let made : c.write_notice.new.0 ≡ stored b (noticed (view b) c.args.participant c.args.named.now l) =
+    accepted-notice b c.requires c.args.named.now (said-yes _ _ c.all_of_day.ensures c.if-not-all_of_day.false)
+    c.args.participant l c.if-participant-book.false c.if-named-lots.false c.if-book-ge3.false few _ c.write_notice.ensures in
+    search (answers, flag-yes, rules) depth 16

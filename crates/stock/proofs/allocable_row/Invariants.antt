@@ -1,0 +1,11 @@
+-- `stock::allocable_row` meets its contract. Assumes nothing.
+use Rattle.std.proofs.Common.{◌≡◌, ◌-◌, length}
+use Rattle.rows.proofs.RowLaws.{Changed}
+use Rattle.stock.specs.Stock.{allocable_in}
+use Rattle.stock.proofs.allocable_row.Given as goal
+
+abbrev pub invariant-loop-i : goal.invariant-loop-i
+invariant-loop-i l = Changed (λ j c. c ≡ allocable_in l.book l.participant j) l.initial.row l.row l.i
+
+abbrev pub decreases-loop-i : goal.decreases-loop-i
+decreases-loop-i l = length l.initial.row - l.i

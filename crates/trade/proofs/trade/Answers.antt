@@ -1,0 +1,22 @@
+-- `trade::trade` meets its contract. Assumes nothing.
+use Rattle.std.proofs.Common.{false}
+use Rattle.std.proofs.Common.{arith, rules}
+use Rattle.lists.proofs.TestLaws.{said-yes, flag-no, flag-yes}
+use Rattle.rule.specs.Calls.{refusal}
+use Rattle.rule.specs.Layout.{trade_of}
+use Rattle.rule.proofs.AnswerLaws.{answers}
+use Rattle.rule.proofs.BookLaws.{sound-book}
+use Rattle.trade.specs.Checked.{trade_sound}
+use Rattle.trade.proofs.trade.Goals as goal
+
+pub returns-then-not-sound : goal.returns-then-not-sound
+unfolding trade_of refusal
+returns-then-not-sound c = search (answers, flag-no, rules)
+
+pub trade_sound-requires : goal.trade_sound-requires
+trade_sound-requires c =
+    sound-book _ (λ j. omega (arith, c.type_inv.? j)) (said-yes _ _ c.sound.ensures c.if-not-sound.false)
+
+pub returns : goal.returns
+unfolding trade_of refusal trade_sound
+returns c = search (answers, flag-yes, rules)
