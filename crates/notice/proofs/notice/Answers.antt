@@ -1,6 +1,6 @@
 -- `notice::notice` meets its contract. Assumes nothing.
 use Rattle.std.proofs.Common.{arith, false, rules}
-use Rattle.lists.proofs.TestLaws.{said-yes, flag-no, flag-yes}
+use Rattle.lists.proofs.TestLaws.{said-no, said-yes}
 use Rattle.rule.specs.Calls.{refusal}
 use Rattle.rule.specs.Layout.{notice_of}
 use Rattle.rule.proofs.AnswerLaws.{answers}
@@ -10,12 +10,12 @@ use Rattle.notice.proofs.notice.Goals as goal
 
 pub returns-then-not-sound : goal.returns-then-not-sound
 unfolding notice_of refusal
-returns-then-not-sound c = search (answers, flag-no, rules)
+returns-then-not-sound c = search (answers, said-no, rules)
 
 pub notice_sound-requires : goal.notice_sound-requires
 notice_sound-requires c =
-    sound-book _ (λ j. omega (arith, c.type_inv.book j)) (said-yes _ _ c.sound.ensures c.if-not-sound.false)
+    sound-book _ (λ j. omega (arith, c.slice_known-1.given j)) (said-yes _ _ c.sound.ensures c.if-not-sound.false)
 
 pub returns : goal.returns
 unfolding notice_of refusal notice_sound
-returns c = search (answers, flag-yes, rules)
+returns c = search (answers, said-yes, rules)

@@ -1,12 +1,13 @@
 -- `notice::notice_sound` meets its contract. Assumes nothing.
-use Rattle.std.proofs.Common.{◌≡◌, false, get_or, leb, length, rules, true}
-use Rattle.lists.proofs.TestLaws.{said-yes, flag-no, flag-yes}
+use Rattle.std.proofs.Common.{◌≡◌, arith, eq-eqb, false, get_or, leb, length, ne_eqb, rules, true}
+use Rattle.std.proofs.lemmas.Bool.{lt-leb}
+use Rattle.lists.proofs.TestLaws.{said-no, said-yes}
 use Rattle.rule.specs.Calls.{notice_checks}
 use Rattle.rule.specs.Sound.{notice_limit}
 use Rattle.rule.specs.Day.{noticed}
 use Rattle.rule.specs.Layout.{view, stored}
 use Rattle.lists.specs.Tests.{all_below}
-use Rattle.rule.proofs.AnswerLaws.{answers}
+use Rattle.rule.proofs.AnswerLaws.{answers, refuse, pass, accept, denied, granted}
 use Rattle.notice.specs.Checked.{notice_sound}
 use Rattle.notice.proofs.NoticeLaws.{few-no, few-yes, markable, writable, accepted-notice}
 use Rattle.notice.proofs.notice_sound.Goals as goal
@@ -29,7 +30,12 @@ returns-then-named-lots c = search (answers, rules) depth 12
 
 pub returns-then-not-all_of_day : goal.returns-then-not-all_of_day
 unfolding notice_sound notice_checks view
-returns-then-not-all_of_day c = search (answers, flag-no, flag-yes, rules) depth 16
+returns-then-not-all_of_day c =
+    pass 6 _ _ _ _ _ _ (lt-leb _ _ c.if-book-ge3.false)
+    (pass 7 _ _ _ _ _ _ (lt-leb _ _ c.if-participant-book.false)
+    (pass 12 _ _ _ _ _ _ (ne_eqb _ _ c.if-named-eq0.false)
+    (pass 12 _ _ _ _ _ _ (granted _ (eq-eqb _ _ c.if-named-lots.false))
+    (refuse 12 _ _ _ _ _ (omega arith) (denied _ (said-no _ _ c.all_of_day.ensures c.if-not-all_of_day.true))))))
 
 pub all_distinct-requires : goal.all_distinct-requires
 all_distinct-requires c =
@@ -37,14 +43,26 @@ all_distinct-requires c =
 
 pub returns-then-not-all_distinct : goal.returns-then-not-all_distinct
 unfolding notice_sound notice_checks view
-returns-then-not-all_distinct c = search (answers, flag-no, flag-yes, rules) depth 16
+returns-then-not-all_distinct c =
+    pass 6 _ _ _ _ _ _ (lt-leb _ _ c.if-book-ge3.false)
+    (pass 7 _ _ _ _ _ _ (lt-leb _ _ c.if-participant-book.false)
+    (pass 12 _ _ _ _ _ _ (ne_eqb _ _ c.if-named-eq0.false)
+    (pass 12 _ _ _ _ _ _ (granted _ (eq-eqb _ _ c.if-named-lots.false))
+    (pass 12 _ _ _ _ _ _ (granted _ (said-yes _ _ c.all_of_day.ensures c.if-not-all_of_day.false))
+    (refuse 12 _ _ _ _ _ (omega arith) (denied _ (said-no _ _ c.all_distinct.ensures c.if-not-all_distinct.true)))))))
 
 pub returns-then-not-row_at_most : goal.returns-then-not-row_at_most
 unfolding notice_sound notice_checks view
 returns-then-not-row_at_most c =
     let l = c.args.lots.now in
     let many : all_below (length l) (λ i. leb (get_or l i 0) notice_limit) ≡ false = few-no l notice_limit _ c.row_at_most.ensures c.if-not-row_at_most.true-raw in
-    search (answers, flag-yes, rules) depth 16
+    pass 6 _ _ _ _ _ _ (lt-leb _ _ c.if-book-ge3.false)
+    (pass 7 _ _ _ _ _ _ (lt-leb _ _ c.if-participant-book.false)
+    (pass 12 _ _ _ _ _ _ (ne_eqb _ _ c.if-named-eq0.false)
+    (pass 12 _ _ _ _ _ _ (granted _ (eq-eqb _ _ c.if-named-lots.false))
+    (pass 12 _ _ _ _ _ _ (granted _ (said-yes _ _ c.all_of_day.ensures c.if-not-all_of_day.false))
+    (pass 12 _ _ _ _ _ _ (granted _ (said-yes _ _ c.all_distinct.ensures c.if-not-all_distinct.false))
+    (refuse 13 _ _ _ _ _ (omega arith) (denied _ many)))))))
 
 pub write_notice-requires : goal.write_notice-requires
 write_notice-requires c =
@@ -57,7 +75,13 @@ returns c =
     let b = c.args.book.now in
     let l = c.args.lots.now in
     let few : all_below (length l) (λ i. leb (get_or l i 0) notice_limit) ≡ true = few-yes l notice_limit _ c.row_at_most.ensures c.if-not-row_at_most.false-raw in
-    let made : c.write_notice.new.0 ≡ stored b (noticed (view b) c.args.participant c.args.named.now l) =
+    let made : c.write_notice.new.book ≡ stored b (noticed (view b) c.args.participant c.args.named.now l) =
     accepted-notice b c.requires c.args.named.now (said-yes _ _ c.all_of_day.ensures c.if-not-all_of_day.false)
     c.args.participant l c.if-participant-book.false c.if-named-lots.false c.if-book-ge3.false few _ c.write_notice.ensures in
-    search (answers, flag-yes, rules) depth 16
+    pass 6 _ _ _ _ _ _ (lt-leb _ _ c.if-book-ge3.false)
+    (pass 7 _ _ _ _ _ _ (lt-leb _ _ c.if-participant-book.false)
+    (pass 12 _ _ _ _ _ _ (ne_eqb _ _ c.if-named-eq0.false)
+    (pass 12 _ _ _ _ _ _ (granted _ (eq-eqb _ _ c.if-named-lots.false))
+    (pass 12 _ _ _ _ _ _ (granted _ (said-yes _ _ c.all_of_day.ensures c.if-not-all_of_day.false))
+    (pass 12 _ _ _ _ _ _ (granted _ (said-yes _ _ c.all_distinct.ensures c.if-not-all_distinct.false))
+    (pass 13 _ _ _ _ _ _ (granted _ few) (accept _ _ _ _ made)))))))

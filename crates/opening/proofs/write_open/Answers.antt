@@ -7,7 +7,7 @@ pub bounds-book-0 : goal.bounds-book-0
 bounds-book-0 c = omega (arith, length-cleared _ _ _ _ _ _ _ c.requires _ c.clear.ensures)
 
 pub bounds-book-1 : goal.bounds-book-1
-bounds-book-1 c = omega (arith, length-cleared _ _ _ _ _ _ _ c.requires _ c.clear.ensures, length-set c.clear.new.0 0 c.args.participants)
+bounds-book-1 c = omega (arith, length-cleared _ _ _ _ _ _ _ c.requires _ c.clear.ensures, length-set c.clear.new.cells 0 c.args.participants)
 
 pub copy_rows-requires : goal.copy_rows-requires
 copy_rows-requires c = codes_room _ _ _ _ _ _ _ c.requires _ c.clear.ensures

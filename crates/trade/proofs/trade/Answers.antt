@@ -1,7 +1,7 @@
 -- `trade::trade` meets its contract. Assumes nothing.
 use Rattle.std.proofs.Common.{false}
 use Rattle.std.proofs.Common.{arith, rules}
-use Rattle.lists.proofs.TestLaws.{said-yes, flag-no, flag-yes}
+use Rattle.lists.proofs.TestLaws.{said-no, said-yes}
 use Rattle.rule.specs.Calls.{refusal}
 use Rattle.rule.specs.Layout.{trade_of}
 use Rattle.rule.proofs.AnswerLaws.{answers}
@@ -11,12 +11,12 @@ use Rattle.trade.proofs.trade.Goals as goal
 
 pub returns-then-not-sound : goal.returns-then-not-sound
 unfolding trade_of refusal
-returns-then-not-sound c = search (answers, flag-no, rules)
+returns-then-not-sound c = search (answers, said-no, rules)
 
 pub trade_sound-requires : goal.trade_sound-requires
 trade_sound-requires c =
-    sound-book _ (λ j. omega (arith, c.type_inv.? j)) (said-yes _ _ c.sound.ensures c.if-not-sound.false)
+    sound-book _ (λ j. omega (arith, c.slice_known-1.given j)) (said-yes _ _ c.sound.ensures c.if-not-sound.false)
 
 pub returns : goal.returns
 unfolding trade_of refusal trade_sound
-returns c = search (answers, flag-yes, rules)
+returns c = search (answers, said-yes, rules)

@@ -8,4 +8,4 @@ returns c =
     let a = c.args in
     let p = c.requires in
     moved a.book.now a.seller a.buyer a.yen _ _ c.wrapping_add_u64-sold.ensures.value
-    (taken _ _ a.yen (omega (arith, c.type_inv.book a.buyer)) (omega arith) p.yen_most c.wrapping_sub_u64-bought.ensures.value)
+    (taken _ _ a.yen (omega (arith, c.slice_known-1.given a.buyer)) (omega arith) p.yen_most c.wrapping_sub_u64-bought.ensures.value)

@@ -1,0 +1,12 @@
+-- `records::booking::move_lots` meets its contract. Assumes nothing.
+use Rattle.std.proofs.Common.{arith, length-set}
+use Rattle.records.specs.Booked.{tally_of}
+use Rattle.records.proofs.BookingLaws.{issue-moved}
+use Rattle.records.proofs.booking.move_lots.Goals as goal
+
+pub bounds-book-to-2 : goal.bounds-book-to-2
+bounds-book-to-2 c = simp length-set (omega (arith, c.requires.cells, c.requires.receiver, c.requires.issue))
+
+pub returns : goal.returns
+returns c =
+    issue-moved _ _ _ _ _ _ _ c.requires (omega (arith, c.type_inv.book (tally_of c.args.receiver c.args.issue))) (omega arith) (omega arith) c.wrapping_add_u64-delivered.ensures.value c.wrapping_sub_u64-received.ensures.value
