@@ -9,4 +9,4 @@ bounds-book-to-2 c = simp length-set (omega (arith, c.requires.cells, c.requires
 
 pub returns : goal.returns
 returns c =
-    issue-moved _ _ _ _ _ _ _ c.requires (omega (arith, c.type_inv.book (tally_of c.args.receiver c.args.issue))) (omega arith) (omega arith) c.wrapping_add_u64-delivered.ensures.value c.wrapping_sub_u64-received.ensures.value
+    issue-moved _ _ _ _ _ _ _ c.requires (omega (arith, c.slice_known-1.given (tally_of c.args.receiver c.args.issue))) (omega arith) (omega arith) c.wrapping_add_u64-delivered.ensures.value c.wrapping_sub_u64-received.ensures.value

@@ -1,0 +1,18 @@
+-- `matched::write_lots` meets its contract. Assumes nothing.
+use Rattle.matched.proofs.FillLaws.{issues-ask, place-fits, forced-there, lots-written}
+use Rattle.matched.proofs.write_lots.Goals as goal
+
+pub write_issues-count-requires : goal.write_issues-count-requires
+write_issues-count-requires c = issues-ask c.requires
+
+pub bounds-used-place : goal.bounds-used-place
+bounds-used-place c = place-fits c.requires c.write_issues-count.ensures
+
+pub overflow_sub-used : goal.overflow_sub-used
+overflow_sub-used c = forced-there c.requires c.write_issues-count.ensures
+
+pub bounds-used-place-2 : goal.bounds-used-place-2
+bounds-used-place-2 c = place-fits c.requires c.write_issues-count.ensures
+
+pub returns : goal.returns
+returns c = lots-written c.requires c.write_issues-count.ensures
