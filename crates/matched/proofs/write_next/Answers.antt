@@ -17,7 +17,7 @@ returns c =
       entry = c.write_match.ensures;
       matched = refl;
       listed = w.listed;
-      between = c.move_yen.new.0;
+      between = c.move_yen.new.book;
       yen = c.move_yen.ensures;
       moved = w.moved;
     }

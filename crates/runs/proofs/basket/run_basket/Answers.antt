@@ -1,0 +1,29 @@
+-- `runs::basket::run_basket` meets its contract. Assumes nothing.
+use Rattle.std.proofs.Common.{arith, length-take-le, sym}
+use Rattle.runs.proofs.BasketLaws.{issues_most, plan-asked, marks-asked, allocate-asked}
+use Rattle.runs.proofs.BasketLaws.{basket-done}
+use Rattle.runs.proofs.basket.run_basket.Goals as goal
+
+pub bounds-book-1 : goal.bounds-book-1
+bounds-book-1 c = omega (arith, c.requires.begun.running.booked.size)
+
+pub plan_basket-count-requires : goal.plan_basket-count-requires
+plan_basket-count-requires c = plan-asked _ _ _ _ _ _ _ _ _ _ _ c.requires _ (omega arith)
+
+pub slice_bounds-inside-end : goal.slice_bounds-inside-end
+slice_bounds-inside-end c = issues_most _ _ _ _ _ _ _ _ _ _ _ c.requires
+
+pub slice_bounds-mark_issues-end : goal.slice_bounds-mark_issues-end
+slice_bounds-mark_issues-end c = sym (length-take-le _ _ (issues_most _ _ _ _ _ _ _ _ _ _ _ c.requires))
+
+pub mark_issues-requires : goal.mark_issues-requires
+mark_issues-requires c = marks-asked _ _ _ _ _ _ _ _ _ _ _ c.requires
+
+pub copy-requires : goal.copy-requires
+copy-requires c = record { room = omega (arith, c.requires.begun.running.places) }
+
+pub allocate-requires : goal.allocate-requires
+allocate-requires c = allocate-asked _ _ _ _ _ _ _ _ _ _ _ c.requires c.mark_issues.ensures c.plan_basket-count.ensures c.copy.ensures
+
+pub returns : goal.returns
+returns c = λ s. basket-done _ _ _ _ _ _ _ _ _ _ _ s c.mark_issues.ensures c.plan_basket-count.ensures c.copy.ensures c.allocate.ensures

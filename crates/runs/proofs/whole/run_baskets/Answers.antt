@@ -1,0 +1,39 @@
+use Rattle.std.proofs.Common.{arith, false, sym, true}
+use Rattle.runs.proofs.RanLaws.{baskets-none, basket-asked, baskets-more, baskets-all, baskets-book}
+use Rattle.runs.proofs.whole.run_baskets.Goals as goal
+
+pub loop-k-init : goal.loop-k-init
+loop-k-init c = baskets-none _ _ _ _ _ _ c.requires
+
+pub slice_bounds-run_basket-end : goal.slice_bounds-run_basket-end
+slice_bounds-run_basket-end c = sym c.loop-k.invariant.done.kept.places
+
+pub slice_bounds-run_basket-end-in-loop-k : goal.slice_bounds-run_basket-end-in-loop-k
+slice_bounds-run_basket-end-in-loop-k c = sym c.loop-k.invariant.done.running.places
+
+pub run_basket-done-requires : goal.run_basket-done-requires
+run_basket-done-requires c =
+    basket-asked _ _ _ _ _ _ c.requires c.loop-k.invariant c.loop-k-test.true
+
+pub overflow_step-k : goal.overflow_step-k
+overflow_step-k c = omega (arith, c.loop-k-test.true)
+
+pub loop-k-smaller : goal.loop-k-smaller
+loop-k-smaller c = omega (arith, c.loop-k-test.true)
+
+pub loop-k-preserved : goal.loop-k-preserved
+loop-k-preserved c =
+    let i = c in
+    baskets-more _ _ _ _ _ _ c.requires i.before.loop.inv i.loop-test.taken c.run_basket-done.ensures
+
+pub shape_of-book : goal.shape_of-book
+shape_of-book c = baskets-book _ _ _ _ _ _ c.requires c.loop-k.invariant
+
+pub shape_of-matches : goal.shape_of-matches
+shape_of-matches c = c.loop-k.invariant.done.running.match_size
+
+pub shape_of-lines : goal.shape_of-lines
+shape_of-lines c = c.loop-k.invariant.done.running.line_size
+
+pub returns : goal.returns
+returns c = baskets-all _ _ _ _ _ _ c.requires c.loop-k.invariant c.loop-k-test.false
