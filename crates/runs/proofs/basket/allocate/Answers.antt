@@ -14,35 +14,23 @@ usable_lots-all-requires c =
 
 pub order_for-listed-requires : goal.order_for-listed-requires
 order_for-listed-requires c =
-    let i = c in
-    order-asked _ _ _ _ _ _ _ _ _ _ _ _ _ _ i.before.loop.inv i.loop-test.taken c.usable_lots-all.ensures c.requires
+    order-asked _ _ _ _ _ _ _ _ _ _ _ _ _ _ c.loop-j.invariant c.loop-j-test.true c.usable_lots-all.ensures c.requires
 
 pub fill_next-f-requires : goal.fill_next-f-requires
 fill_next-f-requires c =
-    let u = c in
-    let i = c in
-    fill-asked _ _ _ _ _ _ _ _ _ _ _ _ _ _ i.before.loop.inv i.loop-test.taken u.usable-lots.ensures c.order_for-listed.ensures _ refl c.requires
+    fill-asked _ _ _ _ _ _ _ _ _ _ _ _ _ _ c.loop-j.invariant c.loop-j-test.true c.usable_lots-all.ensures c.order_for-listed.ensures _ refl c.requires
 
 pub slice_bounds-lots-end : goal.slice_bounds-lots-end
 slice_bounds-lots-end c =
-    let o = c in
-    let u = c in
-    let i = c in
-    lots-long _ _ _ _ _ _ _ _ _ _ _ _ _ _ i.before.loop.inv i.loop-test.taken u.usable-lots.ensures o.order-for.ensures c.fill_next-f.ensures c.requires
+    lots-long _ _ _ _ _ _ _ _ _ _ _ _ _ _ c.loop-j.invariant c.loop-j-test.true c.usable_lots-all.ensures c.order_for-listed.ensures c.fill_next-f.ensures c.requires
 
 pub slice_bounds-write_next-end : goal.slice_bounds-write_next-end
 slice_bounds-write_next-end c =
-    let o = c in
-    let u = c in
-    let i = c in
-    sym (length-take-le _ _ (lots-long _ _ _ _ _ _ _ _ _ _ _ _ _ _ i.before.loop.inv i.loop-test.taken u.usable-lots.ensures o.order-for.ensures c.fill_next-f.ensures c.requires))
+    sym (length-take-le _ _ (lots-long _ _ _ _ _ _ _ _ _ _ _ _ _ _ c.loop-j.invariant c.loop-j-test.true c.usable_lots-all.ensures c.order_for-listed.ensures c.fill_next-f.ensures c.requires))
 
 pub write_next-done-requires : goal.write_next-done-requires
 write_next-done-requires c =
-    let o = c in
-    let u = c in
-    let i = c in
-    write-asked _ _ _ _ _ _ _ _ _ _ _ _ _ _ i.before.loop.inv i.loop-test.taken u.usable-lots.ensures o.order-for.ensures c.fill_next-f.ensures c.requires
+    write-asked _ _ _ _ _ _ _ _ _ _ _ _ _ _ c.loop-j.invariant c.loop-j-test.true c.usable_lots-all.ensures c.order_for-listed.ensures c.fill_next-f.ensures c.requires
 
 pub overflow_step-j : goal.overflow_step-j
 overflow_step-j c =
@@ -54,11 +42,7 @@ loop-j-smaller c =
 
 pub loop-j-preserved : goal.loop-j-preserved
 loop-j-preserved c =
-    let f = c in
-    let o = c in
-    let u = c in
-    let i = c in
-    allocating-more _ _ _ _ _ _ _ _ _ _ _ _ _ _ i.before.loop.inv i.loop-test.taken u.usable-lots.ensures o.order-for.ensures f.fill-next.ensures c.write_next-done.ensures
+    allocating-more _ _ _ _ _ _ _ _ _ _ _ _ _ _ c.loop-j.invariant c.loop-j-test.true c.usable_lots-all.ensures c.order_for-listed.ensures c.fill_next-f.ensures c.write_next-done.ensures
 
 pub shape_of-book : goal.shape_of-book
 shape_of-book c = book-size _ _ _ _ _ _ _ _ _ _ _ _ _ _ c.loop-j.invariant c.requires

@@ -23,8 +23,7 @@ loop-k-smaller c = omega (arith, c.loop-k-test.true)
 
 pub loop-k-preserved : goal.loop-k-preserved
 loop-k-preserved c =
-    let i = c in
-    baskets-more _ _ _ _ _ _ c.requires i.before.loop.inv i.loop-test.taken c.run_basket-done.ensures
+    baskets-more _ _ _ _ _ _ c.requires c.loop-k.invariant c.loop-k-test.true c.run_basket-done.ensures
 
 pub shape_of-book : goal.shape_of-book
 shape_of-book c = baskets-book _ _ _ _ _ _ c.requires c.loop-k.invariant
