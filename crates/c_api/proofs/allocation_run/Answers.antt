@@ -5,7 +5,7 @@ use Rattle.c_api.proofs.allocation_run.Goals as goal
 
 pub returned_run-requires : goal.returned_run-requires
 returned_run-requires c =
-    run_fits _ _ _ _ (λ j. omega (arith, c.type_inv.book j)) _ _ c.run.ensures
+    run_fits _ _ _ _ (λ j. omega (arith, c.slice_known-1.given j)) _ _ c.run.ensures
 
 pub returns : goal.returns
 returns c = search (for-c, rules)

@@ -4,7 +4,7 @@ use Rattle.c_api.proofs.ReturnLaws.{fits-ran, returned-ran}
 use Rattle.c_api.proofs.returned_run.Goals as goal
 
 pub returned_counts-requires : goal.returned_counts-requires
-returned_counts-requires c = fits-ran _ _ _ c.answer-1.given.1 c.requires
+returned_counts-requires c = fits-ran _ _ _ c.in-Ran.is c.requires
 
 pub returns-in-Ran : goal.returns-in-Ran
 returns-in-Ran c = search (returned-ran, rules)
