@@ -1,0 +1,4 @@
+use Rattle.filling_cases.proofs.say_lots.Goals as goal
+
+pub returns : goal.returns
+returns c = tt
