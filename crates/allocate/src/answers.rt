@@ -2,7 +2,7 @@
 use rule::{Answer, Refusal};
 
 // Whether a line could be read, and why not.
-#[derive(Drop)]
+#[derive(Clone, Copy)]
 pub enum Reading {
     Read,
     UnknownWord,

@@ -4,7 +4,7 @@ use crate::{Book, Given, answers, calls, given, words};
 
 // The number of the line that is being read, and how many bytes of it have come; the largest number, where there is no room
 // for them.
-#[derive(Drop)]
+#[derive(Clone, Copy)]
 pub struct Place {
     pub line: u64,
     pub bytes: usize,

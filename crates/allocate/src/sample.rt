@@ -31,6 +31,6 @@ notice 2 JP0000000026=100
 run 1 2 0
 close
 ",
-        -1,
+        &mut std::io::empty(),
     );
 }

@@ -1,7 +1,7 @@
 // The words of a line, "apart by blanks". They count from 0.
 ghost use Rattle.std.specs.Prelude.{◌≤◌, length};
 
-#[derive(Drop)]
+#[derive(Clone, Copy)]
 pub enum Number {
     Of(u64),
     None,

@@ -1,5 +1,6 @@
 // Which kinds a basket takes, and how many lots may be used.
 #![tactic(auto)]
+
 ghost use Rattle.std.specs.Prelude.{◌≡◌, ℕ, ◌+◌, ◌≤◌, ◌&&◌, length, get_or};
 ghost use Rattle.lists.specs.Tests.{pick};
 ghost use Rattle.rule.specs.Value.{Terms};

@@ -1,5 +1,6 @@
 // The calls for C and Rust, which include/allocation.h declares: each hands over to the library's, and turns the answer into one number.
 #![tactic(auto)]
+
 ghost use Rattle.std.specs.Prelude.{◌≡◌, ◌≤◌};
 ghost use Rattle.rule.specs.Calls.{counts, most_matches, most_lines};
 ghost use Rattle.rule.specs.Layout.{book_length, open_of, trade_of, notice_of, run_of, close_of};

@@ -1,5 +1,6 @@
 // Closing a day: "tomorrow's scheduled receipts (the tally where positive, else 0) and pairs (covered above 0 today)".
 #![tactic(auto)]
+
 ghost use Rattle.std.specs.Prelude.{◌≡◌};
 ghost use Rattle.lists.specs.Parts.{grid, over};
 ghost use Rattle.lists.specs.Folds.{joined};

@@ -1,6 +1,7 @@
 // How many lots of which issues a match gets. Everything is by issue number, in arrays of 32 of which the day's issues are
 // the first; rates stand for prices.
 #![tactic(auto)]
+
 ghost use Rattle.std.specs.Prelude.{◌≡◌, false, List, length, get_or, take};
 ghost use Rattle.rule.specs.Value.{Terms};
 ghost use Rattle.rule.specs.Filling.{worth as worth_of, covered as covered_of, fill_preferential, fill_drawn, fill as fill_of, forced_issue, force as force_of, carry as carry_of, filled};

@@ -8,6 +8,7 @@
 // baskets used; a row has one number or more, and goes on with zeros. Numbers are digits alone, apart by blanks. Empty lines
 // and those that start with # count for nothing. A line that is no case is written after `no case: `.
 #![tactic(auto)]
+
 mod words;
 
 ghost use Rattle.std.specs.Prelude.{◌≡◌, true, ℕ, ◌+◌, ◌*◌, ◌≤◌, ◌<◌, List, length, get_or, take};

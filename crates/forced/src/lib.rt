@@ -1,5 +1,6 @@
 // The forced issue of a match in run 3.
 #![tactic(auto)]
+
 ghost use Rattle.std.specs.Prelude.{◌≡◌, List, ◌∷◌, ℕ, ◌<◌, get_or, take, eqb};
 ghost use Rattle.lists.specs.Tests.{pick};
 ghost use Rattle.rule.specs.Value.{Terms};

@@ -1,5 +1,6 @@
 // Codes of issues: ISO 6166 and its check digit, the codes of Japan, and their order. A code is 12 cells.
 #![tactic(auto)]
+
 ghost use Rattle.std.specs.Prelude.{◌≡◌, true, ◌+◌, ◌-◌, ◌*◌, ◌/◌, ◌%◌, ◌≤◌, max, length, eqb};
 ghost use Rattle.lists.specs.Parts.{grid};
 ghost use Rattle.rule.specs.Isin.{digit, capital, is_isin, is_code, before, codes_right};

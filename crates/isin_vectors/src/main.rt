@@ -1,6 +1,7 @@
 // Public codes, and damaged ones for each way to be wrong. A line is a code with what `is_isin` and `is_code` say of it, or two
 // codes with what `stands_before` and `codes_right` say of them.
 #![tactic(auto)]
+
 ghost use Rattle.std.specs.Prelude.{◌+◌, ◌≤◌, length};
 
 // A text into the cells from `at` on.

@@ -1,6 +1,7 @@
 // Where things stand in the book: each offset is the last plus a size. Rows are as far apart as in the largest day, of 12
 // participants and 32 issues.
 #![tactic(auto)]
+
 ghost use Rattle.std.specs.Prelude.{◌≡◌};
 ghost use Rattle.rule.specs.Layout.{book_length};
 

@@ -1,5 +1,6 @@
 // One match of a basket: what it may use, its filling, and what is written of it. Matches stand in cells, four to each.
 #![tactic(auto)]
+
 ghost use Rattle.filling.specs.Match.{FilledAs};
 ghost use Rattle.matching.specs.Plans.{Planned};
 ghost use Rattle.matched.specs.Filled.{Plannable, PlanRows, plan_in, UsableAsked, UsableLots, Fillable, filled_in, LotsWritable, LotsWritten, Writable, Wrote};

@@ -1,5 +1,6 @@
 // Matching: in one basket, who delivers how much to whom, in the order of filling.
 #![tactic(auto)]
+
 ghost use Rattle.std.specs.Prelude.{◌≡◌, ◌+◌, ◌*◌, [], ◌∷◌, length, eqb, false};
 ghost use Rattle.lists.specs.Tables.{up_to};
 ghost use Rattle.lists.specs.Folds.{foldl};

@@ -1,5 +1,6 @@
 // A notice: "replaces its sender's earlier one for the coming run, unnamed issues counting 0".
 #![tactic(auto)]
+
 ghost use Rattle.std.specs.Prelude.{◌≡◌, ◌+◌, ◌*◌, ◌<◌, length, get_or, ltb};
 ghost use Rattle.lists.specs.Tests.{all_below};
 ghost use Rattle.rule.specs.Day.{notice_row};

@@ -1,5 +1,6 @@
 // Opening a day: "sizes first (participants, issues), then two parallel arrays, codes and terms .. scheduled receipts .. and pair marks".
 #![tactic(auto)]
+
 ghost use Rattle.std.specs.Prelude.{◌≡◌, ◌*◌, ◌<◌};
 ghost use Rattle.lists.specs.Parts.{over};
 ghost use Rattle.rule.specs.Layout.{open_of};

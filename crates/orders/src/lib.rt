@@ -1,5 +1,6 @@
 // The order of a deliverer's issues in a match, through a run. Matches stand in cells, four to each.
 #![tactic(auto)]
+
 ghost use Rattle.std.specs.Prelude.{◌≡◌, true, ◌<◌, length, get_or};
 ghost use Rattle.lists.specs.Order.{ranked};
 ghost use Rattle.orders.specs.Orders.{Placed, Same, Rankable, Loadable, Loaded, OrderAsked, OrderFor};

@@ -1,5 +1,6 @@
 // The ranges of opening data, tested on cells that stand anywhere in a slice: in the book, or in the arrays that are lent to opening.
 #![tactic(auto)]
+
 ghost use Rattle.std.specs.Prelude.{◌≡◌, ◌+◌, ◌*◌, ◌≤◌, map, nat_le};
 ghost use Rattle.lists.specs.Tables.{table};
 ghost use Rattle.lists.specs.Parts.{grid};

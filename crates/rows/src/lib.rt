@@ -1,5 +1,6 @@
 // Loops over one row of cells.
 #![tactic(auto)]
+
 ghost use Rattle.std.specs.Prelude.{◌≡◌, map, length};
 ghost use Rattle.lists.specs.Parts.{block, Fits};
 ghost use Rattle.rule.specs.Layout.{plus, minus};

@@ -13,7 +13,7 @@ use Rattle.lists.specs.Folds.{Every}
 use Rattle.lists.proofs.TestLaws.{and_left, and_right, all-at, both_ways}
 use Rattle.lists.proofs.TableLaws.{length-zeros}
 use Rattle.rule.specs.Day.{Day, given_of, opened, traded, noticed}
-use Rattle.rule.specs.Sound.{position_limit, notice_limit, tradable}
+use Rattle.rule.specs.Sound.{position_limit, notice_limit}
 use Rattle.rule.specs.Calls.{Reply, accepted, counts, refused, answer, open_checks, refusal, trade_checks, notice_checks}
 use Rattle.rule.specs.Layout.{book_length, view, stored, book_fits, sound_book, open_of, trade_of, notice_of}
 use Rattle.rule.proofs.SoundLaws.{SoundDay, facts-sound}

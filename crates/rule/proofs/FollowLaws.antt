@@ -15,7 +15,7 @@ use Rattle.lists.specs.Parts.{grid, block, over}
 use Rattle.lists.proofs.TableLaws.{length-table, get_or-table, get_d_map}
 use Rattle.lists.proofs.PartLaws.{Shape, over-same, stands-grid}
 use Rattle.rule.specs.Day.{Given, baskets, given_of, opened}
-use Rattle.rule.specs.Sound.{sound, receipts_fit, marks_fit, tally_limit}
+use Rattle.rule.specs.Sound.{receipts_fit, marks_fit, tally_limit}
 use Rattle.rule.specs.Calls.{Reply, accepted, answer, open_checks, refusal, close_checks, tomorrow_receipts, tomorrow_pairs}
 use Rattle.rule.specs.Layout.{book_length, view, stored, book_fits, sound_book, open_of, close_of}
 use Rattle.rule.proofs.SoundLaws.{of-most}

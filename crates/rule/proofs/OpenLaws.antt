@@ -21,7 +21,7 @@ use Rattle.lists.proofs.PartLaws.{Inside, Outside, Shape, Stands, grid-shape, le
 use Rattle.rule.specs.Isin.{codes_right}
 use Rattle.rule.specs.Day.{Given, baskets, mark, terms_of, given_of, opened}
 use Rattle.rule.specs.Layout.{codes_at, positions_at, notices_at, today_at, tally_at, book_length, signed, signed_rows, given_tables, tables_of, stored}
-use Rattle.rule.specs.Sound.{sizes_fit, all_terms_fit, at_most, receipts_fit, marks_fit, tradable, position_limit, notice_limit, tally_limit}
+use Rattle.rule.specs.Sound.{sizes_fit, all_terms_fit, at_most, receipts_fit, marks_fit, position_limit, notice_limit, tally_limit}
 use Rattle.rule.proofs.SoundLaws.{Most, of-most, Sizes, sizes-of, SoundDay}
 use Rattle.rule.proofs.LayoutLaws.{Shaped, Signed, Signs, Holds, signed-cell, given_inside, given-rise, reads-given, outside-sizes, stored_is}
 

@@ -16,7 +16,7 @@ use Rattle.lists.proofs.TestLaws.{pick_no, pick-elim, and_left, and_right, all-a
 use Rattle.lists.proofs.FoldLaws.{total-zero, every_map, every-from}
 use Rattle.lists.proofs.TableLaws.{length-table, get_or-table}
 use Rattle.lists.proofs.PartLaws.{Shape}
-use Rattle.rule.specs.Day.{Day, baskets, mark}
+use Rattle.rule.specs.Day.{Day, mark}
 use Rattle.rule.specs.Run.{Allocation, allocations, covered_from, covered_to, lots_from, lots_to, covered_pair, ran}
 use Rattle.rule.specs.Sound.{at_most, marks_fit, tradable, position_limit, tally_limit}
 use Rattle.rule.proofs.SoundLaws.{Most, most-of, of-most, SoundDay}

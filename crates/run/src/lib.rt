@@ -1,5 +1,6 @@
 // A run: "returns its counts and writes two lists".
 #![tactic(auto)]
+
 ghost use Rattle.std.specs.Prelude.{◌≡◌, ℕ, eqb};
 ghost use Rattle.lists.specs.Tests.{pick};
 ghost use Rattle.lists.specs.Folds.{total};

@@ -1,5 +1,6 @@
 // What may be used.
 #![tactic(auto)]
+
 ghost use Rattle.std.specs.Prelude.{◌≡◌};
 ghost use Rattle.rows.specs.Rows.{Becomes};
 ghost use Rattle.stock.specs.Stock.{allocable_in, inside_of, usable_of, Issues, Row, Rows, Allocable, Enough, Usable, Usables};

@@ -1,5 +1,6 @@
 // A trade: "adds its yen to the seller's position in a basket and takes them from the buyer's".
 #![tactic(auto)]
+
 ghost use Rattle.std.specs.Prelude.{◌≡◌, ◌+◌, ◌-◌, ◌*◌, ◌<◌};
 ghost use Rattle.rule.specs.Layout.{plus, minus, trade_of};
 ghost use Rattle.rule.proofs.BookLaws.{SoundBook};

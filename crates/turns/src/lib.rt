@@ -1,5 +1,6 @@
 // An issue's turn in a match: how many lots it then has, and what the match is then worth. Rates stand for prices.
 #![tactic(auto)]
+
 ghost use Rattle.std.specs.Prelude.{◌≡◌, ◌-◌, ◌*◌, ◌/◌};
 ghost use Rattle.rule.specs.Value.{Terms, fewest as fewest_of};
 ghost use Rattle.value.specs.Rated.{Rated};

@@ -1,5 +1,6 @@
 // The valuation: the one place where lots become yen and yen become lots.
 #![tactic(auto)]
+
 ghost use Rattle.std.specs.Prelude.{◌≡◌, ℕ, ◌+◌, ◌≤◌, ◌<◌};
 ghost use Rattle.rule.specs.Value.{Terms, value as value_of, fewest as fewest_of, most as most_of};
 ghost use Rattle.value.specs.Rate.{rate as rate_of, Quoted, Valuable, Payable};

@@ -1,5 +1,4 @@
 -- `baskets::is_unmarked` meets its contract. Assumes nothing.
-use Rattle.std.proofs.Common.{false, true}
 use Rattle.baskets.proofs.AllocableLaws.{not-redeemed, is-redeemed}
 use Rattle.baskets.proofs.is_unmarked.Goals as goal
 

@@ -1,5 +1,4 @@
 -- `isin::is_digit` meets its contract. The two answers of a test from a to b. Assumes nothing.
-use Rattle.std.proofs.Common.{false, true}
 use Rattle.rule.specs.Isin.{digit}
 use Rattle.isin.proofs.CodeLaws.{below, from-there}
 use Rattle.isin.proofs.is_digit.Goals as goal

@@ -1,4 +1,4 @@
-use Rattle.std.proofs.Common.{◌∙◌, ◌⊎◌, arith, false, rules, true}
+use Rattle.std.proofs.Common.{◌∙◌, arith, rules}
 use Rattle.lists.proofs.TestLaws.{flag-no, flag-yes, said-no, said-yes}
 use Rattle.isin.proofs.CodeLaws.{is-figure, isin-length, isin-first, isin-second, read_none, read-figure, read-letter, read-stop, read_done}
 use Rattle.isin.proofs.is_isin.Goals as goal
@@ -45,10 +45,10 @@ loop-i-preserved c =
     let d = c.loop-i.invariant in
     let l = c.loop-i-test.true in
     elim c.if-is_digit.branch [
-        then-is_digit w ↦ rw w.sums-is (read-figure d l (said-yes _ _ c.is_digit.ensures w.if-is_digit.true) w.with_digit-sums.ensures.0 w.with_digit-sums.ensures.1)
-        | else-is_digit+else-not-is_capital-3 w ↦
-            rw w.sums-is (read-letter d l (said-yes _ _ w.is_capital-else-is_digit.ensures w.if-not-is_capital-3.false)
-            w.with_capital-sums-else-is_digit.ensures.0 w.with_capital-sums-else-is_digit.ensures.1)
+      | then-is_digit w ↦ rw w.sums-is (read-figure d l (said-yes _ _ c.is_digit.ensures w.if-is_digit.true) w.with_digit-sums.ensures.0 w.with_digit-sums.ensures.1)
+      | else-is_digit+else-not-is_capital-3 w ↦
+          rw w.sums-is (read-letter d l (said-yes _ _ w.is_capital-else-is_digit.ensures w.if-not-is_capital-3.false)
+          w.with_capital-sums-else-is_digit.ensures.0 w.with_capital-sums-else-is_digit.ensures.1)
     ]
 
 pub returns : goal.returns

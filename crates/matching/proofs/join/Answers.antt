@@ -20,6 +20,6 @@ unfolding match_at
 returns c =
     join-done _ _ c.loop-j.invariant c.requires.falling
     (elim c.loop-j-test.branch [
-        else-loop-j-test w ↦ inl (omega arith)
-        | then-loop-j-test+then-amount-cells w ↦ inr (w.loop-j-test.true, w.if-amount-cells.true)
+      | else-loop-j-test w ↦ inl (omega arith)
+      | then-loop-j-test+then-amount-cells w ↦ inr (w.loop-j-test.true, w.if-amount-cells.true)
     ]) c.write.ensures

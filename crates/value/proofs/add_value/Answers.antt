@@ -1,5 +1,5 @@
 -- `value::add_value` meets its contract. Assumes nothing.
-use Rattle.std.proofs.Common.{◌+◌, ap, arith, sum, true, ℕ}
+use Rattle.std.proofs.Common.{◌+◌, ap, arith, ℕ}
 use Rattle.value.proofs.SumLaws.{part_small, nothing-added}
 use Rattle.value.proofs.add_value.Goals as goal
 

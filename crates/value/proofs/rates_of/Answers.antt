@@ -1,4 +1,3 @@
-use Rattle.std.proofs.Common.{false, true}
 use Rattle.value.proofs.TermLaws.{rates-none, rates-more, rates-all}
 use Rattle.value.proofs.rates_of.Goals as goal
 
