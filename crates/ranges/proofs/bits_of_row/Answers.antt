@@ -1,5 +1,4 @@
 -- `ranges::bits_of_row` meets its contract. A row by fours. Assumes nothing.
-use Rattle.std.proofs.Common.{true}
 use Rattle.std.proofs.Common.{arith}
 use Rattle.ranges.proofs.RangeLaws.{ends-are, three-are}
 use Rattle.ranges.proofs.bits_of_row.Goals as goal

@@ -1,6 +1,4 @@
-use Rattle.std.proofs.Common.{false, true}
 use Rattle.std.proofs.Common.{sym, ◌∙◌, arith}
-use Rattle.ranges.specs.Ranges.{square_fits}
 use Rattle.ranges.proofs.ScanLaws.{passed_none, passed-more, passed-stop, passed-all}
 use Rattle.ranges.proofs.RangeLaws.{marks-are, squares-next, squares-rows}
 use Rattle.lists.proofs.TestLaws.{said-no, said-yes}

@@ -1,6 +1,4 @@
-use Rattle.std.proofs.Common.{false, true}
 use Rattle.std.proofs.Common.{sym, ◌∙◌, arith}
-use Rattle.ranges.specs.Ranges.{row_at_most}
 use Rattle.ranges.proofs.ScanLaws.{passed_none, passed-more, passed-stop, passed-all}
 use Rattle.ranges.proofs.RangeLaws.{rows_are, rows_next, rows-room}
 use Rattle.lists.proofs.TestLaws.{said-no, said-yes}

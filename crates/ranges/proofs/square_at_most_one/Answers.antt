@@ -1,5 +1,4 @@
 -- `ranges::square_at_most_one` meets its contract. Assumes nothing.
-use Rattle.std.proofs.Common.{true}
 use Rattle.std.proofs.Common.{◌∙◌}
 use Rattle.ranges.proofs.RangeLaws.{square-joined}
 use Rattle.ranges.proofs.square_at_most_one.Goals as goal

@@ -1,5 +1,4 @@
 -- `ranges::square_fits` meets its contract. Two tests in a row. Assumes nothing.
-use Rattle.std.proofs.Common.{false, true}
 use Rattle.lists.proofs.TestLaws.{said-no, said-yes, row-stop, row-go}
 use Rattle.ranges.proofs.square_fits.Goals as goal
 

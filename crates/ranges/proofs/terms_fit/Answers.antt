@@ -1,6 +1,4 @@
-use Rattle.std.proofs.Common.{false, true}
 use Rattle.std.proofs.Common.{sym, ◌∙◌, arith}
-use Rattle.ranges.specs.Ranges.{terms_at_fit}
 use Rattle.ranges.proofs.ScanLaws.{passed_none, passed-more, passed-stop, passed-all}
 use Rattle.ranges.proofs.RangeLaws.{terms-are}
 use Rattle.lists.proofs.TestLaws.{said-no, said-yes}
