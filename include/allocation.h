@@ -1,6 +1,6 @@
 /* Subsequent collateral allocation for government bond repo: the calls of document 01, for C.
  *
- * Link target/staticlib/libc_api.a, which `rt staticlib c_api` writes after every function in it is proved.
+ * Link crates/c_api/out/libc_api.a, which `rt lib` writes there after every function in it is proved.
  *
  * Every call answers for all arguments: no number and no content of the memory that is lent is out of bounds for it. It returns
  *     ALLOCATION_ACCEPTED    it was done

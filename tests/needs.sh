@@ -10,6 +10,6 @@ need() { # COMMAND PACKAGE
 archive() {
     [ -z "${ARCHIVE_MADE:-}" ] || return 0
     local said
-    said=$(cd .. && rt staticlib c_api 2>&1) || { echo "$said" >&2; exit 1; }
+    said=$(cd ../crates/c_api && rt lib 2>&1) || { echo "$said" >&2; exit 1; }
     export ARCHIVE_MADE=yes
 }

@@ -10,7 +10,8 @@ need valgrind valgrind
 seed=${SEED:-1}
 
 archive
-gcc -std=c11 -O2 -Wall -Wextra -Wpedantic -Werror -I ../include c/day.c ../target/staticlib/libc_api.a -o ../target/day
+mkdir -p ../target
+gcc -std=c11 -O2 -Wall -Wextra -Wpedantic -Werror -I ../include c/day.c ../crates/c_api/out/libc_api.a -o ../target/day
 ../target/day
 
 cargo build --offline --release --quiet

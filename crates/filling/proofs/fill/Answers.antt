@@ -1,5 +1,5 @@
 -- `filling::fill` meets its contract. Assumes nothing.
-use Rattle.std.proofs.Common.{arith, false, true}
+use Rattle.std.proofs.Common.{arith}
 use Rattle.rule.specs.Filling.{fill}
 use Rattle.filling.proofs.MatchLaws.{fill-nothing}
 use Rattle.filling.proofs.fill.Goals as goal

@@ -1,4 +1,4 @@
-use Rattle.std.proofs.Common.{arith, false, true}
+use Rattle.std.proofs.Common.{arith}
 use Rattle.filling.proofs.WalkLaws.{begin, enter, over, done, drawn-ready, on, out}
 use Rattle.filling.proofs.fill_drawn.Goals as goal
 

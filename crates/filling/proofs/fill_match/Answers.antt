@@ -1,5 +1,5 @@
 -- `filling::fill_match` meets its contract. Assumes nothing.
-use Rattle.std.proofs.Common.{◌⊎◌, inl, inr, ltb-true, true}
+use Rattle.std.proofs.Common.{inl, inr, ltb-true}
 use Rattle.value.specs.Rated.{terms_in}
 use Rattle.value.proofs.TermLaws.{terms-length}
 use Rattle.filling.proofs.MatchLaws.{fillable, forcible, third-short, otherwise}

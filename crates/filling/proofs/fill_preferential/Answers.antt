@@ -1,4 +1,4 @@
-use Rattle.std.proofs.Common.{arith, false, true}
+use Rattle.std.proofs.Common.{arith}
 use Rattle.filling.proofs.WalkLaws.{walk-begin, walk-done, walk-ready, walk-on, walk-out}
 use Rattle.filling.proofs.fill_preferential.Goals as goal
 

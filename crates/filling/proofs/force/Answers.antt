@@ -1,5 +1,5 @@
 -- `filling::force` meets its contract. Assumes nothing.
-use Rattle.std.proofs.Common.{◌<◌, arith, refl, take_all}
+use Rattle.std.proofs.Common.{◌<◌, arith, refl}
 use Rattle.filling.proofs.MatchLaws.{forced-below, forced-short, force-filled}
 use Rattle.filling.proofs.force.Goals.{After-forced_issue-forced}
 use Rattle.filling.proofs.force.Goals as goal

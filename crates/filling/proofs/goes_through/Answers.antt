@@ -1,5 +1,5 @@
 -- `filling::goes_through` meets its contract. Assumes nothing.
-use Rattle.std.proofs.Common.{arith, false, ltb-false, refl, true}
+use Rattle.std.proofs.Common.{arith, ltb-false, refl, true}
 use Rattle.lists.proofs.TestLaws.{both_ways}
 use Rattle.filling.proofs.MatchLaws.{idle-forced, idle-uncovered}
 use Rattle.filling.proofs.goes_through.Goals as goal

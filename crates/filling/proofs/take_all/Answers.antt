@@ -1,4 +1,4 @@
-use Rattle.std.proofs.Common.{arith, false, true}
+use Rattle.std.proofs.Common.{arith}
 use Rattle.filling.proofs.RowLaws.{copied_none, copied_more, copied_all}
 use Rattle.filling.proofs.take_all.Goals as goal
 

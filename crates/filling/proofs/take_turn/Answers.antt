@@ -1,5 +1,5 @@
 -- `filling::take_turn` meets its contract. Assumes nothing.
-use Rattle.std.proofs.Common.{refl, true}
+use Rattle.std.proofs.Common.{refl}
 use borrow.Author.Tests.{not-true}
 use Rattle.filling.proofs.RowLaws.{step-idle, step-taken}
 use Rattle.filling.proofs.take_turn.Goals as goal

@@ -1,5 +1,4 @@
 -- `forced::chosen` meets its contract. Assumes nothing.
-use Rattle.std.proofs.Common.{false, true}
 use Rattle.forced.proofs.ChoiceLaws.{chosen-ten, chosen-any}
 use Rattle.forced.proofs.chosen.Goals as goal
 

@@ -1,4 +1,4 @@
-use Rattle.std.proofs.Common.{arith, false, refl, true}
+use Rattle.std.proofs.Common.{arith, refl}
 use Rattle.forced.proofs.ChoiceLaws.{fifth-none, fifth-met, fifth-passed, fifth-all}
 use Rattle.forced.proofs.fifth_largest.Goals as goal
 

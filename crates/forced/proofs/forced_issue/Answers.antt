@@ -1,5 +1,5 @@
 -- `forced::forced_issue` meets its contract. Assumes nothing.
-use Rattle.std.proofs.Common.{false, get_or, take, true}
+use Rattle.std.proofs.Common.{get_or, take}
 use Rattle.rule.specs.Filling.{eligible}
 use Rattle.value.specs.Rated.{terms_in}
 use Rattle.forced.specs.Choice.{BestOf}

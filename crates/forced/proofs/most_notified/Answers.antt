@@ -1,4 +1,4 @@
-use Rattle.std.proofs.Common.{arith, false, refl, true}
+use Rattle.std.proofs.Common.{arith, refl}
 use Rattle.forced.proofs.ChoiceLaws.{best_none, best-more, best-all}
 use Rattle.forced.proofs.most_notified.Goals as goal
 

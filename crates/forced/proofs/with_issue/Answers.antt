@@ -1,5 +1,5 @@
 -- `forced::with_issue` meets its contract. Assumes nothing.
-use Rattle.std.proofs.Common.{false, refl, true}
+use Rattle.std.proofs.Common.{refl}
 use Rattle.forced.proofs.ChoiceLaws.{fifth-more, fifth-stays}
 use Rattle.forced.proofs.with_issue.Goals as goal
 

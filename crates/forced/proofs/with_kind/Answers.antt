@@ -1,5 +1,5 @@
 -- `forced::with_kind` meets its contract. Assumes nothing.
-use Rattle.std.proofs.Common.{eq-eqb, false, ne_eqb, true}
+use Rattle.std.proofs.Common.{eq-eqb, ne_eqb}
 use Rattle.forced.proofs.with_kind.Goals as goal
 
 pub returns-then-kind-eq2 : goal.returns-then-kind-eq2

@@ -1,5 +1,5 @@
 -- `forced::with_notified` meets its contract. Assumes nothing.
-use Rattle.std.proofs.Common.{◌∙◌, arith, false, inl, inr, refl, sym, true}
+use Rattle.std.proofs.Common.{◌∙◌, arith, inl, inr, refl, sym}
 use Rattle.value.specs.Rated.{terms_in}
 use Rattle.forced.specs.Choice.{is_eligible}
 use Rattle.forced.proofs.ChoiceLaws.{best-kept, best-met, eligible-at}

@@ -1,4 +1,4 @@
-use Rattle.std.proofs.Common.{arith, refl, true}
+use Rattle.std.proofs.Common.{arith, refl}
 use Rattle.matching.proofs.DrawnLaws.{turns-begin, turns-end, turns-ask, turns-on}
 use Rattle.matching.proofs.drawn.Goals as goal
 

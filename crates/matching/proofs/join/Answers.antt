@@ -1,4 +1,4 @@
-use Rattle.std.proofs.Common.{◌∙◌, ◌⊎◌, arith, inl, inr, true, ⊎_elim}
+use Rattle.std.proofs.Common.{◌∙◌, arith, inl, inr}
 use Rattle.matching.specs.Plans.{match_at}
 use Rattle.matching.proofs.SortLaws.{join-begin, join_more, join-done}
 use Rattle.matching.proofs.join.Goals as goal

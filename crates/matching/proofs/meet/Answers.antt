@@ -1,5 +1,5 @@
 -- `matching::meet` meets its contract. Assumes nothing.
-use Rattle.std.proofs.Common.{arith, false, true}
+use Rattle.std.proofs.Common.{arith}
 use Rattle.matching.proofs.MeetLaws.{cells-none, cells-room, cells-some}
 use Rattle.matching.proofs.meet.Goals as goal
 

@@ -1,4 +1,4 @@
-use Rattle.std.proofs.Common.{arith, true}
+use Rattle.std.proofs.Common.{arith}
 use Rattle.matching.proofs.TurnLaws.{met-begin, met-asks, met-on, met-stop, met-end}
 use Rattle.matching.proofs.meet_drawn.Goals as goal
 

@@ -1,5 +1,5 @@
 -- `matching::meet_pair` meets its contract. Assumes nothing.
-use Rattle.std.proofs.Common.{◌∙◌, false, true}
+use Rattle.std.proofs.Common.{◌∙◌}
 use Rattle.matching.proofs.PairLaws.{pair-no, pair-yes, pair-asks}
 use Rattle.matching.proofs.meet_pair.Goals as goal
 

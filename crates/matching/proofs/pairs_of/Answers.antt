@@ -1,4 +1,4 @@
-use Rattle.std.proofs.Common.{arith, true}
+use Rattle.std.proofs.Common.{arith}
 use Rattle.matching.proofs.PairLaws.{row-begin, row-asks, row_on, row-stop, row-end}
 use Rattle.matching.proofs.pairs_of.Goals as goal
 

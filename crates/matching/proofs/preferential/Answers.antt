@@ -1,4 +1,4 @@
-use Rattle.std.proofs.Common.{arith, true}
+use Rattle.std.proofs.Common.{arith}
 use Rattle.matching.proofs.PairLaws.{rows_none, rows-begin, rows-ask, rows_on, rows_end}
 use Rattle.matching.proofs.preferential.Goals as goal
 

@@ -1,5 +1,5 @@
 -- `orders::follows` meets its contract. Assumes nothing.
-use Rattle.std.proofs.Common.{arith, eqb-true, false, refl, sym, true}
+use Rattle.std.proofs.Common.{arith, eqb-true, refl, sym, true}
 use Rattle.lists.proofs.TestLaws.{both_ways}
 use Rattle.orders.proofs.follows.Goals as goal
 

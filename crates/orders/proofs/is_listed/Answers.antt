@@ -1,5 +1,5 @@
 -- `orders::is_listed` meets its contract. Assumes nothing.
-use Rattle.std.proofs.Common.{arith, false, refl, sym, true}
+use Rattle.std.proofs.Common.{arith, refl, sym, true}
 use Rattle.lists.proofs.TestLaws.{both_ways}
 use Rattle.orders.proofs.is_listed.Goals as goal
 

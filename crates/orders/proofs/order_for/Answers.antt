@@ -1,5 +1,5 @@
 -- `orders::order_for` meets its contract. Assumes nothing.
-use Rattle.std.proofs.Common.{refl, true}
+use Rattle.std.proofs.Common.{refl}
 use borrow.Author.Tests.{not-true}
 use Rattle.orders.proofs.OrderLaws.{still-listed, not-asked, now-listed}
 use Rattle.orders.proofs.order_for.Goals as goal

@@ -1,5 +1,4 @@
 -- `orders::rank_issues` meets its contract. Assumes nothing.
-use Rattle.std.proofs.Common.{true}
 use Rattle.orders.proofs.OrderLaws.{row-ranked}
 use Rattle.orders.proofs.rank_issues.Goals as goal
 

@@ -1,4 +1,4 @@
-use Rattle.std.proofs.Common.{◌∙◌, arith, false, refl, sym, true}
+use Rattle.std.proofs.Common.{◌∙◌, arith, refl, sym}
 use Rattle.stock.proofs.StockLaws.{allocable-none, allocable-more, allocable-all}
 use Rattle.stock.proofs.allocable_rows.Goals as goal
 

@@ -1,5 +1,4 @@
 -- `stock::usable` meets its contract. Assumes nothing.
-use Rattle.std.proofs.Common.{false, true}
 use Rattle.stock.proofs.StockLaws.{usable-outside, usable-left}
 use Rattle.stock.proofs.usable.Goals as goal
 

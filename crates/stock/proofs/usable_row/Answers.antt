@@ -1,4 +1,4 @@
-use Rattle.std.proofs.Common.{arith, false, true}
+use Rattle.std.proofs.Common.{arith}
 use Rattle.stock.proofs.StockLaws.{usable-none, row-wide, value-asks, usable-more, usable-all}
 use Rattle.stock.proofs.usable_row.Goals as goal
 

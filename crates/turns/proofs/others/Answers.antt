@@ -1,5 +1,5 @@
 -- `turns::others` meets its contract. Assumes nothing.
-use Rattle.std.proofs.Common.{◌-◌, ap, arith, true, ℕ}
+use Rattle.std.proofs.Common.{◌-◌, ap, arith, ℕ}
 use Rattle.turns.proofs.TurnLaws.{besides-none, had-valuable, part-within}
 use Rattle.turns.proofs.others.Goals as goal
 

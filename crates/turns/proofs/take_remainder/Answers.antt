@@ -1,5 +1,5 @@
 -- `turns::take_remainder` meets its contract. Assumes nothing.
-use Rattle.std.proofs.Common.{arith, refl, true}
+use Rattle.std.proofs.Common.{arith, refl}
 use Rattle.turns.proofs.TurnLaws.{not_first, raising, later, bound_all, bound-remainder, remainder-none}
 use Rattle.turns.proofs.take_remainder.Goals as goal
 

@@ -1,5 +1,5 @@
 -- `turns::take_units` meets its contract. Assumes nothing.
-use Rattle.std.proofs.Common.{◌<◌, ◌+◌, ◌*◌, ◌/◌, ap, arith, false, refl, true}
+use Rattle.std.proofs.Common.{◌<◌, ◌+◌, ◌*◌, ◌/◌, ap, arith, refl}
 use Rattle.rule.specs.Value.{Terms, value}
 use Rattle.rule.specs.Filling.{unit}
 use Rattle.value.specs.Rated.{Rated}

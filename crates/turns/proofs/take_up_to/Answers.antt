@@ -1,5 +1,5 @@
 -- `turns::take_up_to` meets its contract. Assumes nothing.
-use Rattle.std.proofs.Common.{◌≤◌, ◌+◌, arith, false, refl, true}
+use Rattle.std.proofs.Common.{◌≤◌, ◌+◌, arith, refl}
 use Rattle.rule.specs.Value.{Terms, value}
 use Rattle.value.specs.Rated.{Rated}
 use Rattle.turns.proofs.TurnLaws.{some-price, idle, up_none, rest_below, bound-addable, up-all, payable, few-addable, up-few}

@@ -1,4 +1,3 @@
-use Rattle.std.proofs.Common.{false, true}
 use Rattle.std.proofs.Common.{refl, arith}
 use Rattle.book.proofs.SoundLaws.{summed-none, summed-more, owed-fits, due-fits, basket-stop, basket-unequal, basket-empty, basket-open}
 use Rattle.lists.proofs.TestLaws.{said-no, said-yes}

@@ -1,5 +1,4 @@
 -- `book::sound::due_of` meets its contract. Assumes nothing.
-use Rattle.std.proofs.Common.{false, true}
 use Rattle.std.proofs.Common.{sym, ◌∙◌, arith, le-ltb, lt-ltb}
 use Rattle.lists.proofs.TestLaws.{pick_yes, pick_no}
 use Rattle.book.proofs.sound.due_of.Goals as goal

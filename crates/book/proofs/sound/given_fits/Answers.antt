@@ -1,5 +1,4 @@
 -- `book::sound::given_fits` meets its contract. Four tests in a row. Assumes nothing.
-use Rattle.std.proofs.Common.{false, true}
 use Rattle.rule.specs.Sound.{receipts_fit}
 use Rattle.book.specs.Sized.{given_fits}
 use Rattle.ranges.proofs.ScanLaws.{holds-stop, holds-go, holds-end}

@@ -1,5 +1,4 @@
 -- `book::sound::sound` meets its contract. Four tests in a row. Assumes nothing.
-use Rattle.std.proofs.Common.{false, true}
 use Rattle.std.proofs.Common.{sym, ◌∙◌, eq-eqb, ne_eqb}
 use Rattle.lists.proofs.TestLaws.{said-no, said-yes, row-stop, row-go}
 use Rattle.rule.specs.Layout.{book_fits}

@@ -1,5 +1,4 @@
 -- `book::sound::state_fits` meets its contract. Six tests in a row. Assumes nothing.
-use Rattle.std.proofs.Common.{false, true}
 use Rattle.std.proofs.Common.{get_or, refl, ◌∙◌, arith, rules, le-leb}
 use Rattle.rule.specs.Sound.{position_limit, notice_limit}
 use borrow.Author.Tests.{lt-leb}

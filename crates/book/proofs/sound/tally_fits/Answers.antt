@@ -1,4 +1,3 @@
-use Rattle.std.proofs.Common.{false, true}
 use Rattle.std.proofs.Common.{sym, arith}
 use Rattle.ranges.proofs.ScanLaws.{passed_none, passed-more, passed-stop, passed-all}
 use Rattle.lists.proofs.TestLaws.{said-no, said-yes}

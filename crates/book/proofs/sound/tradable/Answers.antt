@@ -1,4 +1,3 @@
-use Rattle.std.proofs.Common.{false, true}
 use Rattle.std.proofs.Common.{arith}
 use Rattle.ranges.proofs.ScanLaws.{passed_none, passed-more, passed-all}
 use Rattle.book.proofs.SoundLaws.{eligible-is, tradable-some, tradable-none, is-not}

@@ -1,5 +1,4 @@
 -- `records::booking::marked` meets its contract. Assumes nothing.
-use Rattle.std.proofs.Common.{false, true}
 use Rattle.std.proofs.Common.{sym, le-ltb, lt-ltb}
 use Rattle.lists.proofs.TestLaws.{pick_yes, pick_no}
 use Rattle.records.proofs.booking.marked.Goals as goal

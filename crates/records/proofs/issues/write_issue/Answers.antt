@@ -1,5 +1,4 @@
 -- `records::issues::write_issue` meets its contract. Assumes nothing.
-use Rattle.std.proofs.Common.{false, true}
 use Rattle.std.proofs.Common.{arith}
 use Rattle.records.proofs.IssueLaws.{written_none, written-some}
 use Rattle.records.proofs.issues.write_issue.Goals as goal

@@ -1,4 +1,4 @@
-use Rattle.std.proofs.Common.{arith, false, length-take-le, refl, sym, true}
+use Rattle.std.proofs.Common.{arith, length-take-le, refl, sym}
 use Rattle.runs.proofs.AllocateLaws.{allocating-none, usable-asked, order-asked, fill-asked, lots-long, write-asked, allocating-more, allocating-all, book-size, orders-size, used-size, matches-size, lines-size}
 use Rattle.runs.proofs.basket.allocate.Goals as goal
 

@@ -1,4 +1,4 @@
-use Rattle.std.proofs.Common.{arith, false, true}
+use Rattle.std.proofs.Common.{arith}
 use Rattle.runs.proofs.RanLaws.{cleared-none, cleared-room, cleared_more, cleared-all}
 use Rattle.runs.proofs.whole.clear_notices.Goals as goal
 

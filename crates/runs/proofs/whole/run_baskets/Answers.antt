@@ -1,4 +1,4 @@
-use Rattle.std.proofs.Common.{arith, false, sym, true}
+use Rattle.std.proofs.Common.{arith, sym}
 use Rattle.runs.proofs.RanLaws.{baskets-none, basket-asked, baskets-more, baskets-all, baskets-book}
 use Rattle.runs.proofs.whole.run_baskets.Goals as goal
 
