@@ -1,5 +1,5 @@
 -- `close::close` meets its contract: an unsound book is refused, and a sound one closed. Assumes nothing.
-use Rattle.std.proofs.Common.{arith, false, rules}
+use Rattle.std.proofs.Common.{arith, rules}
 use Rattle.lists.proofs.TestLaws.{said-yes, flag-no, flag-yes}
 use Rattle.rule.specs.Calls.{refusal}
 use Rattle.rule.specs.Layout.{close_of}

@@ -1,5 +1,5 @@
 -- `close::close_sound` meets its contract: each return by the law of its row of the check table. Assumes nothing.
-use Rattle.std.proofs.Common.{arith, false, mul-le-mul, true}
+use Rattle.std.proofs.Common.{arith, mul-le-mul}
 use Rattle.close.proofs.CloseLaws.{few-runs, short-receipts, short-pairs, receipts_fit, pairs_fit, closed}
 use Rattle.close.proofs.close_sound.Goals as goal
 

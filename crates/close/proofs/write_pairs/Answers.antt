@@ -1,4 +1,4 @@
-use Rattle.std.proofs.Common.{arith, true}
+use Rattle.std.proofs.Common.{arith}
 use Rattle.close.proofs.CloseLaws.{covered_none, covered-room, covered_more, covered-all, square-small}
 use Rattle.close.proofs.write_pairs.Goals as goal
 

@@ -1,4 +1,4 @@
-use Rattle.std.proofs.Common.{arith, get_or, true}
+use Rattle.std.proofs.Common.{arith, get_or}
 use Rattle.lists.proofs.PartLaws.{part_length}
 use Rattle.close.proofs.CloseLaws.{received_none, received_more, received-all, receipt-to, receipt-from}
 use Rattle.close.proofs.write_receipts.Goals as goal

@@ -1,4 +1,4 @@
-use Rattle.std.proofs.Common.{◌*◌, arith, true}
+use Rattle.std.proofs.Common.{◌*◌, arith}
 use Rattle.lists.proofs.PartLaws.{part_length}
 use Rattle.close.proofs.CloseLaws.{squared-none, squared-more, squared-all, square-to, square-from, square-fits, squared-joined}
 use Rattle.close.proofs.write_square.Goals as goal

@@ -1,5 +1,5 @@
 -- `filling_cases::case` is safe and ends. Assumes nothing.
-use Rattle.std.proofs.Common.{◌≡◌, ◌≤◌, ◌<◌, List, drop, false, get_or, length, refl, rules, sym, take, ℕ}
+use Rattle.std.proofs.Common.{List, drop, get_or, refl, rules, sym, take, ℕ}
 use Rattle.lists.specs.Tables.{zeros}
 use Rattle.ordering.specs.Ordered.{order_key}
 use Rattle.filling_cases.proofs.CaseLaws.{termed, day-row, rankable, ranks-there, ranks-row, orderable, stocked, matchable}

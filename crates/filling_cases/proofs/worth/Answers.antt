@@ -1,4 +1,4 @@
-use Rattle.std.proofs.Common.{arith, false, true}
+use Rattle.std.proofs.Common.{arith}
 use Rattle.value.proofs.SumLaws.{sum-none, sum-all}
 use Rattle.filling_cases.proofs.CaseLaws.{value-asks, summed-more}
 use Rattle.filling_cases.proofs.worth.Goals as goal

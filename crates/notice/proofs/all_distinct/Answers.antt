@@ -1,4 +1,4 @@
-use Rattle.std.proofs.Common.{arith, false, true}
+use Rattle.std.proofs.Common.{arith}
 use Rattle.notice.proofs.NoticeLaws.{marked-none, marked_more, marked-twice, marked_all}
 use Rattle.notice.proofs.all_distinct.Goals as goal
 

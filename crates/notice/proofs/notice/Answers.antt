@@ -1,5 +1,5 @@
 -- `notice::notice` meets its contract. Assumes nothing.
-use Rattle.std.proofs.Common.{arith, false, rules}
+use Rattle.std.proofs.Common.{arith, rules}
 use Rattle.lists.proofs.TestLaws.{said-no, said-yes}
 use Rattle.rule.specs.Calls.{refusal}
 use Rattle.rule.specs.Layout.{notice_of}

@@ -1,4 +1,4 @@
-use Rattle.std.proofs.Common.{◌∙◌, ap, arith, length, true}
+use Rattle.std.proofs.Common.{◌∙◌, ap, arith, length}
 use Rattle.opening.proofs.CellLaws.{copied-length}
 use Rattle.opening.proofs.OpenLaws.{marked-none, marked_more, marked_all, room_at, room-from, square-small}
 use Rattle.opening.proofs.copy_marks.Goals as goal

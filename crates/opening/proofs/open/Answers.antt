@@ -1,5 +1,5 @@
 -- `opening::open` meets its contract. Assumes nothing.
-use Rattle.std.proofs.Common.{arith, false, mul-le-mul, true}
+use Rattle.std.proofs.Common.{arith, mul-le-mul}
 use Rattle.rule.proofs.SoundLaws.{sizes-of}
 use Rattle.opening.proofs.OpenLaws.{wrong-sizes, wrong-codes, wrong-terms, wrong-receipts, wrong-pairs, wrong-book, lengths, right-lengths}
 use Rattle.lists.proofs.TestLaws.{said-no, said-yes}

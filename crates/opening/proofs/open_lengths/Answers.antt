@@ -1,5 +1,5 @@
 -- `opening::open_lengths` meets its contract. Assumes nothing.
-use Rattle.std.proofs.Common.{◌≡◌, ◌∙◌, ◌*◌, List, ap, arith, false, length, mul-le-mul, mul_comm, refl, sym, true, ℕ}
+use Rattle.std.proofs.Common.{◌≡◌, ◌∙◌, ◌*◌, List, ap, arith, length, mul-le-mul, mul_comm, refl, sym, ℕ}
 use Rattle.lists.specs.Parts.{grid, over}
 use Rattle.rule.specs.Isin.{codes_right}
 use Rattle.opening.specs.Opened.{Lengths}

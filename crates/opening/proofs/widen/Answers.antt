@@ -1,4 +1,4 @@
-use Rattle.std.proofs.Common.{arith, true}
+use Rattle.std.proofs.Common.{arith}
 use Rattle.opening.proofs.OpenLaws.{widened_none, widened_more, widened-all}
 use Rattle.opening.proofs.widen.Goals as goal
 

@@ -1,5 +1,5 @@
 -- `opening::widen` meets its contract: the codes below i are cells. Assumes nothing.
-use Rattle.std.proofs.Common.{◌-◌, codes, length}
+use Rattle.std.proofs.Common.{◌-◌, length}
 use Rattle.opening.proofs.OpenLaws.{Widened}
 use Rattle.opening.proofs.widen.Given as goal
 

@@ -1,4 +1,4 @@
-use Rattle.std.proofs.Common.{◌∙◌, arith, eq-eqb, false, sym, true}
+use Rattle.std.proofs.Common.{◌∙◌, arith, eq-eqb, sym}
 use Rattle.lists.proofs.TestLaws.{all_none, all_more, all-through}
 use Rattle.run.proofs.RunLaws.{once, other_length, not-once, all_once}
 use Rattle.run.proofs.names_each_once.Goals as goal

@@ -1,5 +1,5 @@
 -- `run::run` meets its contract. Assumes nothing.
-use Rattle.std.proofs.Common.{arith, false, rules}
+use Rattle.std.proofs.Common.{arith, rules}
 use Rattle.lists.proofs.TestLaws.{said-yes, flag-no, flag-yes}
 use Rattle.rule.specs.Calls.{refusal}
 use Rattle.rule.specs.Layout.{run_of}

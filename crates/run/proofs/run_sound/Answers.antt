@@ -1,5 +1,5 @@
 -- `run::run_sound` meets its contract. Assumes nothing.
-use Rattle.std.proofs.Common.{arith, false, true}
+use Rattle.std.proofs.Common.{arith}
 use Rattle.run.proofs.RunLaws.{three-done, wrong-draw, short-matches, short-lines, run-asks, all-ran}
 use Rattle.lists.proofs.TestLaws.{said-no, said-yes}
 use Rattle.run.proofs.run_sound.Goals as goal

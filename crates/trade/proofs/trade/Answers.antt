@@ -1,5 +1,4 @@
 -- `trade::trade` meets its contract. Assumes nothing.
-use Rattle.std.proofs.Common.{false}
 use Rattle.std.proofs.Common.{arith, rules}
 use Rattle.lists.proofs.TestLaws.{said-no, said-yes}
 use Rattle.rule.specs.Calls.{refusal}

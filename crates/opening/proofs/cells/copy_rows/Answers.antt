@@ -1,4 +1,4 @@
-use Rattle.std.proofs.Common.{◌∙◌, ap, arith, true}
+use Rattle.std.proofs.Common.{◌∙◌, ap, arith}
 use Rattle.lists.specs.Parts.{block}
 use Rattle.lists.proofs.PartLaws.{part_length}
 use Rattle.opening.proofs.CellLaws.{copied_none, copied_more, copied_all, room-to, room-from, joined-room, copied-joined}
