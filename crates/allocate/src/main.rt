@@ -53,22 +53,26 @@ fn day<S: Read>(text: &[u8], source: &mut S) {
     lines::end(last, &line, &mut given, &mut book);
 }
 
-// A name that is no text names no file that can be opened.
-fn path(name: &[u8]) -> &str {
-    str::from_utf8(name).unwrap_or("")
+fn open(rt: &HostRuntime, path: &str) {
+    match File::open(rt, path) {
+        Ok(mut source) => day(b"", &mut source),
+        Err(error) => {
+            let _ = eprintln!(rt; "{path}: {error}");
+        }
+    }
 }
 
-// The file of a name.
+// The file of a name, which is UTF-8 where it can be opened.
 fn file(rt: &HostRuntime, name: &[u8]) {
     if words::same(name, b"-") {
         day(b"", &mut rt.stdin());
         return;
     }
-    let path = path(name);
-    match File::open(rt, path) {
-        Ok(mut source) => day(b"", &mut source),
-        Err(error) => {
-            let _ = eprintln!(rt; "{path}: {error}");
+    match str::from_utf8(name) {
+        Ok(path) => open(rt, path),
+        Err(_) => {
+            io::write_all(2, name);
+            io::write_all(2, b": a file's name has to be UTF-8\n");
         }
     }
 }

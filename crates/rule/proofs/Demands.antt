@@ -1,14 +1,42 @@
 -- The demands of document 01, as specs/Claims.antt says them. Assumes nothing.
-use mathlib.Core.Path.{◌∙◌}
+use mathlib.Core.Path.{◌≡◌, refl, ◌∙◌}
+use mathlib.Core.Logic.{◌⊎◌, inl, inr}
+use mathlib.Core.Bool.{not}
+use mathlib.Core.List.{List, [], ◌∷◌}
+use lib.ListN.{length}
+use Rattle.lists.specs.Tests.{member}
 use Rattle.rule.specs.Day.{given_of}
-use Rattle.rule.specs.Layout.{view, open_of}
-use Rattle.rule.specs.Claims.{History, history, Demand2, Demand3, Soundness, Following}
+use Rattle.rule.specs.Run.{Allocation, allocations, line_list}
+use Rattle.rule.specs.Calls.{Reply, accepted, open_checks, refusal, trade_checks, notice_checks, run_checks, run_reply, close_checks}
+use Rattle.rule.specs.Layout.{view, book_fits, sound_book, open_of, trade_of, notice_of, run_of, close_of}
+use Rattle.rule.specs.Claims.{Counted, Demand1, History, history, Demand2, Demand3, Soundness, Following}
+use Rattle.rule.proofs.RefusalLaws.{by-table}
 use Rattle.rule.proofs.BookLaws.{sound-book}
 use Rattle.rule.proofs.RunCallLaws.{RunLeaves, run_sound}
 use Rattle.rule.proofs.HandedRight.{handed-right}
 use Rattle.rule.proofs.HandedLaws.{matches-are, lines_are}
 use Rattle.rule.proofs.HistoryLaws.{Kept, kept, holds_kept, sound-kept}
 use Rattle.rule.proofs.FollowLaws.{Follows, follows}
+
+pub demand-one : Demand1
+unfolding member refusal open_of open_checks trade_of trade_checks notice_of notice_checks run_of run_checks run_reply close_of close_checks
+demand-one = record {
+  opening = λ n m codes terms receipts pairs b.
+      by-table (1 ∷ 2 ∷ 3 ∷ 4 ∷ []) (open_checks (book_fits b) n m codes terms receipts pairs) accepted _ b refl;
+  trade = λ b seller buyer k yen.
+      by-table (5 ∷ 6 ∷ 7 ∷ 8 ∷ 9 ∷ 10 ∷ 11 ∷ []) ((5, not (sound_book b)) ∷ trade_checks (view b) seller buyer k yen) accepted _ b refl;
+  notice = λ b p issues lots.
+      by-table (5 ∷ 6 ∷ 7 ∷ 12 ∷ 13 ∷ []) ((5, not (sound_book b)) ∷ notice_checks (view b) p issues lots) accepted _ b refl;
+  run = λ b draw matches lines.
+      counted (allocations (view b) draw) _
+      (by-table (5 ∷ 6 ∷ 14 ∷ 15 ∷ []) ((5, not (sound_book b)) ∷ run_checks (view b) draw (length matches) (length lines)) (run_reply (allocations (view b) draw)) _ (b, matches, lines) refl);
+  close = λ b receipts pairs.
+      by-table (5 ∷ 16 ∷ 15 ∷ []) ((5, not (sound_book b)) ∷ close_checks (view b) (length receipts) (length pairs)) accepted _ (receipts, pairs) refl;
+}
+  where
+    counted : {Y : Type 0} (done : List Allocation) (r : Reply) → (r ≡ run_reply done) ⊎ Y → Counted r ⊎ Y
+    counted done r (inl e) = inl (record { matches = length done; lines = length (line_list done); told = e })
+    counted done r (inr y) = inr y
 
 pub demand-two : Demand2
 unfolding Demand2

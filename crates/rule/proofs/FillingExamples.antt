@@ -2,11 +2,11 @@
 -- Assumes nothing.
 use mathlib.Core.Path.{◌≡◌, refl}
 use Prim.Native.Nat.{ℕ}
-use mathlib.Core.Bool.{false}
+use mathlib.Core.Bool.{true, false}
 use mathlib.Core.List.{List, [], ◌∷◌, map}
 use lib.ListN.{length}
 use Rattle.lists.specs.Tables.{zeros}
-use Rattle.rule.specs.Value.{Terms}
+use Rattle.rule.specs.Value.{Terms, value}
 use Rattle.rule.specs.Filling.{fill_drawn, fill_preferential, filled, covered, forced_issue}
 use Rattle.rule.proofs.NumberRule.{number_rule}
 
@@ -21,10 +21,23 @@ pair = of_kind 2 ∷ of_kind 2 ∷ []
 abbrev drawn_lots : ℕ → ℕ → ℕ → List ℕ
 drawn_lots a b yen = (fill_drawn pair (a ∷ b ∷ []) (0 ∷ 1 ∷ []) yen).lots
 
+-- at 30,000 and at 50,500 yen a lot; and with a coupon of 100 thousandths of a percent and a day of interest
+abbrev cheap : Terms
+cheap = record { kind = 2; price = 6000; coupon = 0; days = 0; redeemed = 0; interest = 0 }
+
+abbrev dear : Terms
+dear = record { kind = 2; price = 10100; coupon = 0; days = 0; redeemed = 0; interest = 0 }
+
+abbrev accruing : ℕ → Terms
+accruing p = record { kind = 2; price = p; coupon = 100; days = 1; redeemed = 0; interest = 0 }
+
 record Fillings : Type 0 where
   -- the first pass takes whole units from both issues, where a walk would take all of issue 0
   whole_units : drawn_lots 150000 120000 10000000000 ≡ 100000 ∷ 100000 ∷ []
   walked : (fill_preferential pair (150000 ∷ 120000 ∷ []) (0 ∷ 1 ∷ []) 10000000000).lots ≡ 150000 ∷ 50000 ∷ []
+  -- "A preferential match walks the issues", "A drawn match has three passes"
+  by_mark : map (λ mark. (filled 0 mark pair (150000 ∷ 120000 ∷ []) (0 ∷ 1 ∷ []) 0 10000000000).lots) (true ∷ false ∷ [])
+      ≡ (150000 ∷ 50000 ∷ []) ∷ (100000 ∷ 100000 ∷ []) ∷ []
   -- the second takes what is under a unit: all of issue 0's, then the fewest of issue 1's
   remainders : drawn_lots 150000 120000 8000000000 ≡ 150000 ∷ 10000 ∷ []
   both_remainders : drawn_lots 130000 250000 12000000000 ≡ 130000 ∷ 110000 ∷ []
@@ -32,6 +45,26 @@ record Fillings : Type 0 where
   left_over : drawn_lots 120000 250000 14000000000 ≡ 120000 ∷ 160000 ∷ []
   -- a shortage of exactly 10,000,000 yen is not rounded further; of a yen more it is
   exact_shortage : map (covered 30000000) (30000000 ∷ 20000000 ∷ 19999999 ∷ 5 ∷ []) ≡ 30000000 ∷ 20000000 ∷ 10000000 ∷ 0 ∷ []
+  -- a shortage is "at most the amount"
+  small_shortage : map (λ x. covered x 0) (1 ∷ 9999999 ∷ 10000000 ∷ []) ≡ 0 ∷ 0 ∷ 0 ∷ []
+  -- "the rest is the covered amount and is filled afresh": a shortage of 5,020,000 yen leaves 9,990,000,000 covered, and the target is 5,000,000,000, where
+  -- one unit of 3,000,000,000 yen fits and not three
+  afresh : filled 0 false (cheap ∷ cheap ∷ []) (300000 ∷ 33166 ∷ []) (0 ∷ 1 ∷ []) 0 10000000000
+      ≡ record { covered = 9990000000; lots = 299834 ∷ 33166 ∷ []; last = 0; forced = 0; forced_lots = 0 }
+  -- a unit of issue 0 does not fit the target, one of issue 1 does: the walk goes on
+  misfit : (fill_drawn (dear ∷ of_kind 2 ∷ []) (150000 ∷ 100000 ∷ []) (0 ∷ 1 ∷ []) 5000000000).lots ≡ 0 ∷ 100000 ∷ []
+  -- "keep the match's value at or below the target": what issue 0 has counts
+  match_value : drawn_lots 100000 200000 10000000000 ≡ 100000 ∷ 100000 ∷ []
+  -- "Each issue within a match is valued on its total lots in that match": 100,000 lots of the first pass and 11,114 of the second have one interest of
+  -- 15,221 yen, where 13,698 and 1,522 would be a yen less
+  one_rounding : (fill_drawn (accruing 9000 ∷ []) (150000 ∷ []) (0 ∷ []) 5000145221).lots ≡ 111114 ∷ []
+  -- 4 usable lots and 4 forced ones are worth 400,001 yen, interest 1; in two parts it would be 0
+  forced_rounding : (filled 2 false (accruing 10000 ∷ []) (4 ∷ []) (0 ∷ []) 0 400001).forced_lots ≡ 4
+  -- "Kind 6 is valued on face too", and a bill's coupon counts as any
+  kinds_alike : map (λ k. value (record { kind = k; price = 10000; coupon = 100; days = 1; redeemed = 0; interest = 0 }) 8) (0 ∷ 1 ∷ 2 ∷ 3 ∷ 4 ∷ 5 ∷ 6 ∷ [])
+      ≡ 400001 ∷ 400001 ∷ 400001 ∷ 400001 ∷ 400001 ∷ 400001 ∷ 400001 ∷ []
+  -- in runs 1 and 2 nothing is forced
+  carried : map (λ r. (filled r false pair (2 ∷ 0 ∷ []) (0 ∷ 1 ∷ []) 0 120000).forced_lots) (0 ∷ 1 ∷ []) ≡ 0 ∷ 0 ∷ []
   -- a forced issue that also has usable lots: 2 are usable, 3 reach the amount
   forced_too : filled 2 false pair (2 ∷ 0 ∷ []) (0 ∷ 1 ∷ []) 0 120000 ≡ record { covered = 120000; lots = 2 ∷ 0 ∷ []; last = 0; forced = 0; forced_lots = 1 }
 
@@ -40,10 +73,19 @@ unfolding number_rule
 fillings = record {
   whole_units = refl;
   walked = refl;
+  by_mark = refl;
   remainders = refl;
   both_remainders = refl;
   left_over = refl;
   exact_shortage = refl;
+  small_shortage = refl;
+  afresh = refl;
+  misfit = refl;
+  match_value = refl;
+  one_rounding = refl;
+  forced_rounding = refl;
+  kinds_alike = refl;
+  carried = refl;
   forced_too = refl;
 }
 
@@ -59,6 +101,10 @@ unnotified ts = forced_issue 2 ts (zeros (length ts))
 record Forced : Type 0 where
   -- "the deliverer's most notified lots", ties: smaller ISIN; marked issues and those of other baskets do not count
   most : forced_issue 2 (paying 1 ∷ of_kind 4 ∷ of_kind 1 ∷ of_kind 2 ∷ of_kind 3 ∷ []) (9 ∷ 9 ∷ 5 ∷ 7 ∷ 7 ∷ []) ≡ 3
+  -- of any kind
+  most_of_kind_one : forced_issue 2 (of_kind 1 ∷ of_kind 2 ∷ []) (5 ∷ 3 ∷ []) ≡ 0
+  -- "With none above 0": lots of issues that do not count are as none
+  none_counts : forced_issue 2 (of_kind 1 ∷ of_kind 2 ∷ paying 2 ∷ of_kind 4 ∷ []) (0 ∷ 0 ∷ 9 ∷ 9 ∷ []) ≡ 1
   -- "the fifth largest ISIN among unmarked kind 2 issues": of six, of five, of four
   six : unnotified (of_kind 2 ∷ of_kind 2 ∷ of_kind 2 ∷ of_kind 2 ∷ of_kind 2 ∷ of_kind 2 ∷ []) ≡ 1
   five : unnotified (of_kind 0 ∷ of_kind 2 ∷ of_kind 2 ∷ of_kind 2 ∷ of_kind 2 ∷ of_kind 2 ∷ []) ≡ 1
@@ -68,4 +114,4 @@ record Forced : Type 0 where
 
 forced : Forced
 unfolding number_rule
-forced = record { most = refl; six = refl; five = refl; four = refl; other = refl }
+forced = record { most = refl; most_of_kind_one = refl; none_counts = refl; six = refl; five = refl; four = refl; other = refl }

@@ -38,7 +38,7 @@ entry_of a = record {
   forced_lots = a.filled.forced_lots;
 }
 
-entries : (done : List Allocation) → map match_of (match_list done) ≡ map entry_of done
+pub entries : (done : List Allocation) → map match_of (match_list done) ≡ map entry_of done
 unfolding match_list match_entry
 entries [] = refl
 entries (a ∷ done) = ap (λ (l : List MatchEntry). entry_of a ∷ l) (entries done)

@@ -35,4 +35,16 @@ pub mod HandedRight
 pub mod StepLaws
 pub mod HistoryLaws
 pub mod FollowLaws
+pub mod RefusalLaws
+pub mod DayCalls
+pub mod DayRule
+pub mod ViewedLaws
+pub mod ExampleDays
+pub mod CodeExamples
+pub mod BasketExamples
+pub mod AllocableExamples
+pub mod RunExamples
+pub mod CheckExamples
+pub mod SoundExamples
+pub mod BookExamples
 pub mod Demands

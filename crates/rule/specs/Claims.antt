@@ -1,7 +1,7 @@
 -- Document 01, "We agree": the demands, as claims about what the calls answer, write and leave, for every book and every list of calls. They
 -- are proved in proofs/Demands.antt. Assumes nothing.
 use Rattle.std.specs.Prelude.{◌≡◌, ◌≢◌, ◌⊎◌, ℕ, suc, ◌+◌, ◌-◌, ◌*◌, ◌≤◌, ◌<◌, Bool, true, false, ◌&&◌, List, [], ◌∷◌, ◌++◌, map, length, get_or, take, eqb, ltb}
-use Rattle.lists.specs.Tests.{pick}
+use Rattle.lists.specs.Tests.{pick, member}
 use Rattle.lists.specs.Tables.{table, zeros, row, cell, less}
 use Rattle.lists.specs.Folds.{foldl, total, sum, keep}
 use Rattle.lists.specs.Parts.{grid, block}
@@ -13,6 +13,37 @@ use Rattle.rule.specs.Day.{Given, Day, baskets, given_of, notice_row}
 use Rattle.rule.specs.Run.{Allocation, allocable_of, allocations, line_list}
 use Rattle.rule.specs.Calls.{Reply, accepted, counts, refused, match_size, line_size, most_matches, most_lines}
 use Rattle.rule.specs.Layout.{view, sound_book, open_of, trade_of, notice_of, run_of, close_of}
+
+-- ---- demand 1: every call, whatever it is given, answers by the check table, and a refused one changes nothing
+
+-- a refusal with one of the numbers of the call's place, "alone; book and lists stay": what was lent is as it was
+pub record RefusedWith {X : Type 0} (numbers : List ℕ) (lent : X) (r : Reply × X) : Type 0 where
+  pub number : ℕ
+  pub listed : member number numbers ≡ true
+  pub stays : r ≡ (refused number, lent)
+
+-- "A run returns its counts"
+pub record Counted (r : Reply) : Type 0 where
+  pub matches : ℕ
+  pub lines : ℕ
+  pub told : r ≡ counts matches lines
+
+pub record Demand1 : Type 0 where
+  pub opening : (n m : ℕ) (codes terms receipts pairs b : List ℕ)
+      → let r : Reply × List ℕ = open_of n m codes terms receipts pairs b in
+      (r.0 ≡ accepted) ⊎ RefusedWith (1 ∷ 2 ∷ 3 ∷ 4 ∷ []) b r
+  pub trade : (b : List ℕ) (seller buyer k yen : ℕ)
+      → let r : Reply × List ℕ = trade_of b seller buyer k yen in
+      (r.0 ≡ accepted) ⊎ RefusedWith (5 ∷ 6 ∷ 7 ∷ 8 ∷ 9 ∷ 10 ∷ 11 ∷ []) b r
+  pub notice : (b : List ℕ) (p : ℕ) (issues lots : List ℕ)
+      → let r : Reply × List ℕ = notice_of b p issues lots in
+      (r.0 ≡ accepted) ⊎ RefusedWith (5 ∷ 6 ∷ 7 ∷ 12 ∷ 13 ∷ []) b r
+  pub run : (b draw matches lines : List ℕ)
+      → let r : Reply × (List ℕ × List ℕ × List ℕ) = run_of b draw matches lines in
+      Counted r.0 ⊎ RefusedWith (5 ∷ 6 ∷ 14 ∷ 15 ∷ []) (b, matches, lines) r
+  pub close : (b receipts pairs : List ℕ)
+      → let r : Reply × (List ℕ × List ℕ) = close_of b receipts pairs in
+      (r.0 ≡ accepted) ⊎ RefusedWith (5 ∷ 16 ∷ 15 ∷ []) (receipts, pairs) r
 
 -- ---- the lists that a run hands out
 
