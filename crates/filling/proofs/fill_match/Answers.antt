@@ -1,8 +1,8 @@
 -- `filling::fill_match` meets its contract. Assumes nothing.
-use Rattle.std.proofs.Common.{inl, inr, ltb-true}
+use Rattle.std.proofs.Common.{ltb-true, arith, rules}
 use Rattle.value.specs.Rated.{terms_in}
 use Rattle.value.proofs.TermLaws.{terms-length}
-use Rattle.filling.proofs.MatchLaws.{fillable, forcible, third-short, otherwise}
+use Rattle.filling.proofs.MatchLaws.{fillable, forcible, third-short, otherwise, enough}
 use Rattle.filling.proofs.fill_match.Goals as goal
 
 pub force-requires : goal.force-requires
@@ -10,7 +10,7 @@ force-requires c = forcible c.requires (ltb-true _ _ c.if-all-amount.true-raw)
 
 pub returns-then-all-amount : goal.returns-then-all-amount
 returns-then-all-amount c =
-    rw (third-short _ (terms_in c.args.issues c.args.terms.now) _ _ _ _ c.requires.all_is _ c.if-runs-ge2.true (ltb-true _ _ c.if-all-amount.true-raw))
+    rw (third-short _ (terms_in c.args.issues c.args.terms.now) _ _ _ _ c.requires.all_is c.args.runs (omega arith) (ltb-true _ _ c.if-all-amount.true-raw))
     c.force.ensures
 
 pub carry-requires : goal.carry-requires
@@ -19,5 +19,5 @@ carry-requires c = fillable c.requires
 pub returns : goal.returns
 returns c =
     let ts = terms_in c.args.issues c.args.terms.now in
-    rw (otherwise _ ts _ _ _ _ c.requires.all_is _ (elim c.else-runs-ge2.either [ inl h ↦ inr h.1 | inr h ↦ inl h ]))
+    rw (otherwise _ ts _ _ _ c.args.amount.0 c.requires.all_is c.args.runs (search (enough, rules)))
     (c.carry.ensures ts (terms-length c.args.issues c.args.terms.now) c.requires.rated c.requires.all_is)
