@@ -1,16 +1,16 @@
 -- `filling::fill_match` meets its contract. Assumes nothing.
-use Rattle.std.proofs.Common.{ltb-true, arith, rules}
+use Rattle.std.proofs.Common.{arith, rules}
 use Rattle.value.specs.Rated.{terms_in}
 use Rattle.value.proofs.TermLaws.{terms-length}
 use Rattle.filling.proofs.MatchLaws.{fillable, forcible, third-short, otherwise, enough}
 use Rattle.filling.proofs.fill_match.Goals as goal
 
 pub force-requires : goal.force-requires
-force-requires c = forcible c.requires (ltb-true _ _ c.if-all-amount.true-raw)
+force-requires c = forcible c.requires c.if-all-amount.true
 
 pub returns-then-all-amount : goal.returns-then-all-amount
 returns-then-all-amount c =
-    rw (third-short _ (terms_in c.args.issues c.args.terms.now) _ _ _ _ c.requires.all_is c.args.runs (omega arith) (ltb-true _ _ c.if-all-amount.true-raw))
+    rw (third-short _ (terms_in c.args.issues c.args.terms.now) _ _ _ _ c.requires.all_is c.args.runs (omega arith) c.if-all-amount.true)
     c.force.ensures
 
 pub carry-requires : goal.carry-requires

@@ -1,4 +1,4 @@
-use Rattle.std.proofs.Common.{arith, refl}
+use Rattle.std.proofs.Common.{arith, refl, rules}
 use Rattle.matching.proofs.DrawnLaws.{turns-begin, turns-end, turns-ask, turns-on}
 use Rattle.matching.proofs.drawn.Goals as goal
 
@@ -14,7 +14,7 @@ turn-made-requires c = turns-ask _ _ _ _ c.loop-k.invariant _ c.rank.ensures c.l
 pub loop-k-preserved : goal.loop-k-preserved
 loop-k-preserved c =
     turns-on _ _ _ _ c.loop-k.invariant _ c.rank.ensures c.loop-k-test.true c.requires c.turn-made.ensures
-    c.owed-1.given c.due-1.given c.cells-1.given.1
+    c.turn-made.auto.owed c.turn-made.auto.due (search rules)
 
 pub shape_of-owed : goal.shape_of-owed
 shape_of-owed c = c.loop-k.invariant.owed_size

@@ -10,10 +10,10 @@ loop-j-init c = join-begin _ _
 pub loop-j-preserved : goal.loop-j-preserved
 unfolding match_at
 loop-j-preserved c =
-    join_more _ _ c.loop-j.invariant c.loop-j-test.true (omega arith) c.cells-1.given c.copy.ensures
+    join_more _ _ c.loop-j.invariant c.loop-j-test.true (omega arith) c.copy.auto.cells c.copy.ensures
 
 pub shape_of-cells : goal.shape_of-cells
-shape_of-cells c = c.cells-2-1.given ∙ c.loop-j.invariant.size
+shape_of-cells c = c.write.auto.cells ∙ c.loop-j.invariant.size
 
 pub returns : goal.returns
 unfolding match_at

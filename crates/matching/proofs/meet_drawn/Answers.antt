@@ -10,7 +10,7 @@ meet-made-requires c = met-asks _ _ _ _ _ c.loop-j.invariant c.loop-j-test.true 
 
 pub loop-j-preserved : goal.loop-j-preserved
 loop-j-preserved c =
-    met-on _ _ _ _ _ c.loop-j.invariant c.loop-j-test.true _ c.meet-made.ensures c.owed-1.given c.due-1.given c.cells-1.given
+    met-on _ _ _ _ _ c.loop-j.invariant c.loop-j-test.true _ c.meet-made.ensures c.meet-made.auto.owed c.meet-made.auto.due c.meet-made.auto.cells
 
 pub shape_of-owed-after-loop-j : goal.shape_of-owed-after-loop-j
 shape_of-owed-after-loop-j c = c.loop-j.invariant.owed_size

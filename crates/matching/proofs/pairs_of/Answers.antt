@@ -10,7 +10,7 @@ meet_pair-made-requires c = row-asks _ _ _ _ _ _ c.loop-r.invariant c.loop-r-tes
 
 pub loop-r-preserved : goal.loop-r-preserved
 loop-r-preserved c =
-    row_on _ _ _ _ c.args.n _ c.loop-r.invariant (omega arith) _ c.meet_pair-made.ensures c.owed-1.given c.due-1.given c.cells-1.given
+    row_on _ _ _ _ c.args.n _ c.loop-r.invariant (omega arith) _ c.meet_pair-made.ensures c.meet_pair-made.auto.owed c.meet_pair-made.auto.due c.meet_pair-made.auto.cells
 
 pub shape_of-owed-after-loop-r : goal.shape_of-owed-after-loop-r
 shape_of-owed-after-loop-r c = c.loop-r.invariant.owed_size

@@ -13,7 +13,7 @@ pairs_of-made-requires c = rows-ask _ _ _ _ _ c.loop-d.invariant c.loop-d-test.t
 
 pub loop-d-preserved : goal.loop-d-preserved
 loop-d-preserved c =
-    rows_on _ _ _ _ _ c.loop-d.invariant c.loop-d-test.true _ c.pairs_of-made.ensures.left c.owed-1.given c.due-1.given c.cells-1.given
+    rows_on _ _ _ _ _ c.loop-d.invariant c.loop-d-test.true _ c.pairs_of-made.ensures.left c.pairs_of-made.auto.owed c.pairs_of-made.auto.due c.pairs_of-made.auto.cells
 
 pub shape_of-owed : goal.shape_of-owed
 shape_of-owed c = c.loop-d.invariant.owed_size

@@ -9,7 +9,7 @@ pub join-requires : goal.join-requires
 join-requires c = record { room = omega arith; falling = sort-falls _ c.loop-k.invariant.1 }
 
 pub loop-k-preserved : goal.loop-k-preserved
-loop-k-preserved c = (omega arith, sort-more _ c.loop-k.invariant.1 c.cells-1.given c.join.ensures)
+loop-k-preserved c = (omega arith, sort-more _ c.loop-k.invariant.1 c.join.auto.cells c.join.ensures)
 
 pub shape_of-cells : goal.shape_of-cells
 shape_of-cells c = c.loop-k.invariant.1.size

@@ -3,4 +3,4 @@ use Rattle.matching.proofs.TurnLaws.{turn_is}
 use Rattle.matching.proofs.turn.Goals as goal
 
 pub returns : goal.returns
-returns c = turn_is _ _ _ _ c.meet_drawn-n.ensures c.sort.ensures c.cells-2-1.given
+returns c = turn_is _ _ _ _ c.meet_drawn-n.ensures c.sort.ensures c.sort.auto.cells

@@ -1,5 +1,5 @@
 -- `notice::notice` meets its contract. Assumes nothing.
-use Rattle.std.proofs.Common.{arith, rules}
+use Rattle.std.proofs.Common.{rules}
 use Rattle.lists.proofs.TestLaws.{said-no, said-yes}
 use Rattle.rule.specs.Calls.{refusal}
 use Rattle.rule.specs.Layout.{notice_of}
@@ -14,7 +14,7 @@ returns-then-not-sound c = search (answers, said-no, rules)
 
 pub notice_sound-requires : goal.notice_sound-requires
 notice_sound-requires c =
-    sound-book _ (λ j. omega (arith, c.slice_known-1.given j)) (said-yes _ _ c.sound.ensures c.if-not-sound.false)
+    sound-book _ (λ j. search rules) (said-yes _ _ c.sound.ensures c.if-not-sound.false)
 
 pub returns : goal.returns
 unfolding notice_of refusal notice_sound

@@ -1,5 +1,5 @@
 -- `run::run` meets its contract. Assumes nothing.
-use Rattle.std.proofs.Common.{arith, rules}
+use Rattle.std.proofs.Common.{rules}
 use Rattle.lists.proofs.TestLaws.{said-yes, flag-no, flag-yes}
 use Rattle.rule.specs.Calls.{refusal}
 use Rattle.rule.specs.Layout.{run_of}
@@ -14,7 +14,7 @@ returns-then-not-sound c = search (answers, flag-no, rules)
 
 pub run_sound-requires : goal.run_sound-requires
 run_sound-requires c =
-    sound-book _ (λ j. omega (arith, c.slice_known-1.given j)) (said-yes _ _ c.sound.ensures c.if-not-sound.false)
+    sound-book _ (λ j. search rules) (said-yes _ _ c.sound.ensures c.if-not-sound.false)
 
 pub returns : goal.returns
 unfolding run_of refusal run_sound
