@@ -14,10 +14,9 @@ echo "$(grep -m 1 '^model name' /proc/cpuinfo | cut -d: -f2 | xargs), $(rustc --
 echo
 $bench
 
-# Instructions from entering the call to leaving it. Callgrind counts a `rep stosb` or `rep movsb` once for each byte, though it is one
-# instruction: the C library is told to write and copy large blocks by vectors, on both sides.
+# instructions from entering the call to leaving it
 count() { # CASE SIDE FUNCTION
-    GLIBC_TUNABLES=glibc.cpu.x86_rep_stosb_threshold=1073741824:glibc.cpu.x86_rep_movsb_threshold=1073741824 valgrind --tool=callgrind --callgrind-out-file=/dev/null --toggle-collect="$3" $bench "$1" "$2" 2>&1 | sed -n 's/.*Collected : //p'
+    valgrind --tool=callgrind --callgrind-out-file=/dev/null --toggle-collect="$3" $bench "$1" "$2" 2>&1 | sed -n 's/.*Collected : //p'
 }
 
 echo

@@ -72,7 +72,8 @@ fn allocate(
     done
 }
 
-// A basket's matches: planned, filled, listed and booked. `used` are the lots used in the run so far.
+// A basket's matches: planned, filled, listed and booked. `used` are the lots used in the run so far; `before` is lent for those used
+// before the basket.
 pub fn run_basket(
     book: &mut [u64],
     basket: usize,
@@ -81,6 +82,7 @@ pub fn run_basket(
     allocable: &[u64],
     orders: &mut [u64],
     used: &mut [u64],
+    before: &mut [u64; 384],
     matches: &mut [u64],
     lines: &mut [u64],
     counts: Counts,
@@ -94,7 +96,6 @@ pub fn run_basket(
     let count = matched::plan_basket(&*book, basket, draw, &mut cells[..]);
     let mut inside = [0u64; 32];
     stock::mark_issues(&*book, basket as u64, &mut inside[..issues]);
-    let mut before = [0u64; 384];
     lists::copy(&mut before[..], &*used, 0);
     allocate(
         book,

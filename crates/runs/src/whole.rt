@@ -19,6 +19,8 @@ fn run_baskets(
     ensures { BasketsDone book.old draw.now matches.old lines.old book.new matches.new lines.new result.matches result.lines }
 {
     let mut used = [0u64; 384];
+    // one for all baskets: zeros for each would be overwritten at once
+    let mut before = [0u64; 384];
     // no row of issues is ranked yet
     let mut orders = [32u64; 384];
     let mut done = Counts {
@@ -34,6 +36,7 @@ fn run_baskets(
             allocable,
             &mut orders[..],
             &mut used[..],
+            &mut before,
             &mut *matches,
             &mut *lines,
             done,

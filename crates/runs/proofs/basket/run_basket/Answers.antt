@@ -1,5 +1,6 @@
 -- `runs::basket::run_basket` meets its contract. Assumes nothing.
-use Rattle.std.proofs.Common.{arith, length-take-le, sym}
+use Rattle.std.proofs.Common.{◌≡◌, ◌∙◌, ℕ, List, length, ap, arith, rules, length-take-le, sym}
+use Rattle.lists.specs.Parts.{block}
 use Rattle.runs.proofs.BasketLaws.{issues_most, plan-asked, marks-asked, allocate-asked}
 use Rattle.runs.proofs.BasketLaws.{basket-done}
 use Rattle.runs.proofs.basket.run_basket.Goals as goal
@@ -22,8 +23,16 @@ mark_issues-requires c = marks-asked _ _ _ _ _ _ _ _ _ _ _ c.requires
 pub copy-requires : goal.copy-requires
 copy-requires c = record { room = omega (arith, c.requires.begun.running.places) }
 
+-- the array has room for all lots used
+copied : (used before copy : List ℕ) → length before ≡ 384 → copy ≡ block used 0 (length before) → copy ≡ block used 0 384
+copied used before copy e h = h ∙ ap (λ (n : ℕ). block used 0 n) e
+
 pub allocate-requires : goal.allocate-requires
-allocate-requires c = allocate-asked _ _ _ _ _ _ _ _ _ _ _ c.requires c.mark_issues.ensures c.plan_basket-count.ensures c.copy.ensures
+allocate-requires c =
+    allocate-asked _ _ _ _ _ _ _ _ _ _ _ c.requires c.mark_issues.ensures c.plan_basket-count.ensures
+    (copied c.args.used.now c.args.before.now _ (search rules) c.copy.ensures)
 
 pub returns : goal.returns
-returns c = λ s. basket-done _ _ _ _ _ _ _ _ _ _ _ s c.mark_issues.ensures c.plan_basket-count.ensures c.copy.ensures c.allocate.ensures
+returns c = λ s.
+    basket-done _ _ _ _ _ _ _ _ _ _ _ s c.mark_issues.ensures c.plan_basket-count.ensures
+    (copied c.args.used.now c.args.before.now _ (search rules) c.copy.ensures) c.allocate.ensures
