@@ -2,65 +2,33 @@
 #![tactic(auto)]
 
 ghost use Rattle.std.specs.Prelude.{◌≡◌, ◌≤◌};
-ghost use Rattle.rule.specs.Calls.{counts, most_matches, most_lines};
 ghost use Rattle.rule.specs.Layout.{book_length, open_of, trade_of, notice_of, run_of, close_of};
-ghost use Rattle.rule.specs.Answers.{number_of, told, told_run};
+ghost use Rattle.rule.specs.Answers.{told, told_run};
 ghost use Rattle.c_api.specs.Returned.{returned, for_c, Fits};
 
-use rule::{Answer, Refusal, RunAnswer, Yen};
+use rule::{Counts, Refusal, Yen};
 
 // A run's number: 2^32 + matches × 2^16 + lines.
 const RAN: u64 = 4294967296;
 
 const MATCH: u64 = 65536;
 
-// The check table's number.
-fn number(refusal: Refusal) -> u64
-    ensures { result ≡ number_of refusal }
-{
-    match refusal {
-        Refusal::WrongSize => 1,
-        Refusal::WrongCode => 2,
-        Refusal::WrongTerm => 3,
-        Refusal::WrongReceiptOrPair => 4,
-        Refusal::UnsoundBook => 5,
-        Refusal::ThreeRunsDone => 6,
-        Refusal::NotOfDay => 7,
-        Refusal::WrongAmount => 8,
-        Refusal::NoUnmarkedIssue => 9,
-        Refusal::PositionTooLarge => 10,
-        Refusal::TooManyTrades => 11,
-        Refusal::WrongEntry => 12,
-        Refusal::TooManyLots => 13,
-        Refusal::WrongDraw => 14,
-        Refusal::ShortList => 15,
-        Refusal::FewerThanThreeRuns => 16,
-    }
-}
-
-fn returned(answer: Answer) -> u64
+fn returned(answer: Result<(), Refusal>) -> u64
     ensures { result ≡ returned (told answer) }
 {
     match answer {
-        Answer::Accepted => 0,
-        Answer::Refused(why) => number(why),
+        Ok(()) => 0,
+        Err(why) => u64::from(why),
     }
 }
 
-fn returned_counts(matches: u64, lines: u64) -> u64
-    requires { (matches ≤ most_matches) × (lines ≤ most_lines) }
-    ensures { result ≡ returned (counts matches lines) }
-{
-    RAN + matches * MATCH + lines
-}
-
-fn returned_run(answer: RunAnswer) -> u64
+fn returned_run(answer: Result<Counts, Refusal>) -> u64
     requires { Fits (told_run answer) }
     ensures { result ≡ returned (told_run answer) }
 {
     match answer {
-        RunAnswer::Ran { matches, lines } => returned_counts(matches, lines),
-        RunAnswer::Refused(why) => number(why),
+        Ok(counts) => RAN + counts.matches as u64 * MATCH + counts.lines as u64,
+        Err(why) => u64::from(why),
     }
 }
 

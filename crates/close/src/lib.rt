@@ -10,7 +10,7 @@ ghost use Rattle.rule.proofs.BookLaws.{SoundBook};
 ghost use Rattle.close.specs.Closed.{Gathers, ReceiptsFit, PairsFit, receipts_written, pairs_written, close_sound};
 
 use book::sound;
-use rule::{Answer, Refusal};
+use rule::Refusal;
 
 // The tally's rows, one after the other.
 fn write_receipts(book: &[u64], receipts: &mut [u64])
@@ -72,31 +72,31 @@ fn write_pairs(book: &[u64], pairs: &mut [u64])
 }
 
 // In a sound book.
-fn close_sound(book: &[u64], receipts: &mut [u64], pairs: &mut [u64]) -> Answer
+fn close_sound(book: &[u64], receipts: &mut [u64], pairs: &mut [u64]) -> Result<(), Refusal>
     requires { SoundBook book.now }
     ensures { (told result, (receipts.new, pairs.new)) ≡ close_sound book.now receipts.old pairs.old }
 {
     if book[layout::RUNS] < 3 {
-        return Answer::Refused(Refusal::FewerThanThreeRuns);
+        return Err(Refusal::FewerThanThreeRuns);
     }
     let n = book[layout::PARTICIPANTS] as usize;
     let m = book[layout::ISSUES] as usize;
     if receipts.len() < n * m {
-        return Answer::Refused(Refusal::ShortList);
+        return Err(Refusal::ShortList);
     }
     if pairs.len() < layout::BASKETS * (n * n) {
-        return Answer::Refused(Refusal::ShortList);
+        return Err(Refusal::ShortList);
     }
     write_receipts(book, receipts);
     write_pairs(book, pairs);
-    Answer::Accepted
+    Ok(())
 }
 
-pub fn close(book: &[u64], receipts: &mut [u64], pairs: &mut [u64]) -> Answer
+pub fn close(book: &[u64], receipts: &mut [u64], pairs: &mut [u64]) -> Result<(), Refusal>
     ensures { (told result, (receipts.new, pairs.new)) ≡ close_of book.now receipts.old pairs.old }
 {
     if !sound::sound(book) {
-        return Answer::Refused(Refusal::UnsoundBook);
+        return Err(Refusal::UnsoundBook);
     }
     close_sound(book, receipts, pairs)
 }

@@ -7,14 +7,7 @@ ghost use Rattle.matched.specs.Filled.{Plannable, PlanRows, plan_in, UsableAsked
 
 use filling::Filling;
 use records::{booking, issues, listing};
-use rule::Yen;
-
-// How many matches and lines are written.
-#[derive(Drop)]
-pub struct Counts {
-    pub matches: usize,
-    pub lines: usize,
-}
+use rule::{Counts, Yen};
 
 // The matches of the basket, from rows for what each participant owes and has due.
 fn plan_rows(

@@ -11,7 +11,7 @@ ghost use Rattle.rule.proofs.BookLaws.{SoundBook};
 ghost use Rattle.notice.specs.Checked.{Named, Entries, Written, notice_sound, notice_written};
 
 use book::{limits, sound};
-use rule::{Answer, Refusal};
+use rule::Refusal;
 
 // Does each entry name an issue of the day?
 fn all_of_day(named: &[u64], issues: u64) -> bool
@@ -71,40 +71,40 @@ fn write_notice(book: &mut [u64], participant: u64, named: &[u64], lots: &[u64])
 }
 
 // In a sound book.
-fn notice_sound(book: &mut [u64], participant: u64, named: &[u64], lots: &[u64]) -> Answer
+fn notice_sound(book: &mut [u64], participant: u64, named: &[u64], lots: &[u64]) -> Result<(), Refusal>
     requires { SoundBook book.old }
     ensures { (told result, book.new) ≡ notice_sound book.old participant named.now lots.now }
 {
     if book[layout::RUNS] >= 3 {
-        return Answer::Refused(Refusal::ThreeRunsDone);
+        return Err(Refusal::ThreeRunsDone);
     }
     if participant >= book[layout::PARTICIPANTS] {
-        return Answer::Refused(Refusal::NotOfDay);
+        return Err(Refusal::NotOfDay);
     }
     if named.len() == 0 {
-        return Answer::Refused(Refusal::WrongEntry);
+        return Err(Refusal::WrongEntry);
     }
     if named.len() != lots.len() {
-        return Answer::Refused(Refusal::WrongEntry);
+        return Err(Refusal::WrongEntry);
     }
     if !all_of_day(named, book[layout::ISSUES]) {
-        return Answer::Refused(Refusal::WrongEntry);
+        return Err(Refusal::WrongEntry);
     }
     if !all_distinct(named) {
-        return Answer::Refused(Refusal::WrongEntry);
+        return Err(Refusal::WrongEntry);
     }
     if !ranges::row_at_most(lots, 0, lots.len(), limits::NOTICE) {
-        return Answer::Refused(Refusal::TooManyLots);
+        return Err(Refusal::TooManyLots);
     }
     write_notice(book, participant, named, lots);
-    Answer::Accepted
+    Ok(())
 }
 
-pub fn notice(book: &mut [u64], participant: u64, issues: &[u64], lots: &[u64]) -> Answer
+pub fn notice(book: &mut [u64], participant: u64, issues: &[u64], lots: &[u64]) -> Result<(), Refusal>
     ensures { (told result, book.new) ≡ notice_of book.old participant issues.now lots.now }
 {
     if !sound::sound(book) {
-        return Answer::Refused(Refusal::UnsoundBook);
+        return Err(Refusal::UnsoundBook);
     }
     notice_sound(book, participant, issues, lots)
 }

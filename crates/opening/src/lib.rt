@@ -10,7 +10,7 @@ ghost use Rattle.opening.specs.Opened.{Wide, Marks, Lengths, Tables, marks_writt
 mod cells;
 
 use book::limits;
-use rule::{Answer, Refusal};
+use rule::Refusal;
 
 // The bytes of the codes as cells.
 fn widen(codes: &[u8], cells: &mut [u64])
@@ -104,27 +104,27 @@ fn open_lengths(
     receipts: &[u64],
     pairs: &[u64],
     book: &mut [u64],
-) -> Answer
+) -> Result<(), Refusal>
     requires { Lengths participants issues codes.now terms.now receipts.now pairs.now book.old }
     ensures { (told result, book.new) ≡ open_lengths participants issues codes.now terms.now receipts.now pairs.now book.old }
 {
     let mut wide = [0u64; 384];
     widen(codes, &mut wide);
     if !isin::codes_right(&wide, issues) {
-        return Answer::Refused(Refusal::WrongCode);
+        return Err(Refusal::WrongCode);
     }
     if !ranges::terms_fit(terms, 0, issues) {
-        return Answer::Refused(Refusal::WrongTerm);
+        return Err(Refusal::WrongTerm);
     }
     if !ranges::rows_at_most(receipts, 0, issues, participants, issues, limits::RECEIPT) {
-        return Answer::Refused(Refusal::WrongReceiptOrPair);
+        return Err(Refusal::WrongReceiptOrPair);
     }
     let square = participants * participants;
     if !ranges::marks_fit(pairs, 0, square, participants, participants) {
-        return Answer::Refused(Refusal::WrongReceiptOrPair);
+        return Err(Refusal::WrongReceiptOrPair);
     }
     write_open(participants, issues, &wide, terms, receipts, pairs, book);
-    Answer::Accepted
+    Ok(())
 }
 
 pub fn open(
@@ -135,28 +135,28 @@ pub fn open(
     receipts: &[u64],
     pairs: &[u64],
     book: &mut [u64],
-) -> Answer
+) -> Result<(), Refusal>
     ensures { (told result, book.new) ≡ open_of participants issues codes.now terms.now receipts.now pairs.now book.old }
 {
     if !ranges::sizes_fit(participants, issues) {
-        return Answer::Refused(Refusal::WrongSize);
+        return Err(Refusal::WrongSize);
     }
     let n = participants as usize;
     let m = issues as usize;
     if codes.len() != 12 * m {
-        return Answer::Refused(Refusal::WrongSize);
+        return Err(Refusal::WrongSize);
     }
     if terms.len() != 6 * m {
-        return Answer::Refused(Refusal::WrongSize);
+        return Err(Refusal::WrongSize);
     }
     if receipts.len() != n * m {
-        return Answer::Refused(Refusal::WrongSize);
+        return Err(Refusal::WrongSize);
     }
     if pairs.len() != layout::BASKETS * (n * n) {
-        return Answer::Refused(Refusal::WrongSize);
+        return Err(Refusal::WrongSize);
     }
     if book.len() != layout::LENGTH {
-        return Answer::Refused(Refusal::WrongSize);
+        return Err(Refusal::WrongSize);
     }
     open_lengths(n, m, codes, terms, receipts, pairs, book)
 }

@@ -1,12 +1,9 @@
 -- The paper's number, and its values, for each case of the code's answers. The contracts are stated through these. Assumes nothing.
-use Rattle.std.specs.Prelude.{ℕ}
+use Rattle.std.specs.Prelude.{ℕ, Result, Ok, Err}
 use Rattle.rule.specs.Calls.{Reply, accepted, counts, refused}
 use Rattle.rule.specs.declared.Refusal.{Refusal}
+use Rattle.rule.specs.declared.Counts.{Counts}
 use Rattle.rule.specs.declared.Refusal.TheVariants.{WrongSize, WrongCode, WrongTerm, WrongReceiptOrPair, UnsoundBook, ThreeRunsDone, NotOfDay, WrongAmount, NoUnmarkedIssue, PositionTooLarge, TooManyTrades, WrongEntry, TooManyLots, WrongDraw, ShortList, FewerThanThreeRuns}
-use Rattle.rule.specs.declared.Answer.{Answer}
-use Rattle.rule.specs.declared.Answer.TheVariants as answers
-use Rattle.rule.specs.declared.RunAnswer.{RunAnswer}
-use Rattle.rule.specs.declared.RunAnswer.TheVariants as run_answers
 
 abbrev pub number_of : Refusal → ℕ
 number_of WrongSize = 1
@@ -26,10 +23,10 @@ number_of WrongDraw = 14
 number_of ShortList = 15
 number_of FewerThanThreeRuns = 16
 
-abbrev pub told : Answer → Reply
-told answers.Accepted = accepted
-told (answers.Refused why) = refused (number_of why)
+abbrev pub told : Result Unit Refusal → Reply
+told (Ok _) = accepted
+told (Err why) = refused (number_of why)
 
-abbrev pub told_run : RunAnswer → Reply
-told_run (run_answers.Ran matches lines) = counts matches lines
-told_run (run_answers.Refused why) = refused (number_of why)
+abbrev pub told_run : Result Counts Refusal → Reply
+told_run (Ok c) = counts c.matches c.lines
+told_run (Err why) = refused (number_of why)

@@ -11,7 +11,7 @@ ghost use Rattle.rule.proofs.BookLaws.{SoundBook};
 ghost use Rattle.run.specs.Checked.{run_sound};
 
 use book::sound;
-use rule::{Refusal, RunAnswer};
+use rule::{Counts, Refusal};
 
 // The cells of 77 matches, and of 2,464 lines.
 const MATCH_CELLS: usize = 7 * 77;
@@ -47,34 +47,30 @@ fn names_each_once(draw: &[u64], participants: u64) -> bool
 }
 
 // In a sound book.
-fn run_sound(book: &mut [u64], draw: &[u64], matches: &mut [u64], lines: &mut [u64]) -> RunAnswer
+fn run_sound(book: &mut [u64], draw: &[u64], matches: &mut [u64], lines: &mut [u64]) -> Result<Counts, Refusal>
     requires { SoundBook book.old }
     ensures { (told_run result, (book.new, matches.new, lines.new)) ≡ run_sound book.old draw.now matches.old lines.old }
 {
     if book[layout::RUNS] >= 3 {
-        return RunAnswer::Refused(Refusal::ThreeRunsDone);
+        return Err(Refusal::ThreeRunsDone);
     }
     if !names_each_once(draw, book[layout::PARTICIPANTS]) {
-        return RunAnswer::Refused(Refusal::WrongDraw);
+        return Err(Refusal::WrongDraw);
     }
     if matches.len() < MATCH_CELLS {
-        return RunAnswer::Refused(Refusal::ShortList);
+        return Err(Refusal::ShortList);
     }
     if lines.len() < LINE_CELLS {
-        return RunAnswer::Refused(Refusal::ShortList);
+        return Err(Refusal::ShortList);
     }
-    let counts = runs::whole::run(book, draw, matches, lines);
-    RunAnswer::Ran {
-        matches: counts.matches as u64,
-        lines: counts.lines as u64,
-    }
+    Ok(runs::whole::run(book, draw, matches, lines))
 }
 
-pub fn run(book: &mut [u64], draw: &[u64], matches: &mut [u64], lines: &mut [u64]) -> RunAnswer
+pub fn run(book: &mut [u64], draw: &[u64], matches: &mut [u64], lines: &mut [u64]) -> Result<Counts, Refusal>
     ensures { (told_run result, (book.new, matches.new, lines.new)) ≡ run_of book.old draw.now matches.old lines.old }
 {
     if !sound::sound(book) {
-        return RunAnswer::Refused(Refusal::UnsoundBook);
+        return Err(Refusal::UnsoundBook);
     }
     run_sound(book, draw, matches, lines)
 }

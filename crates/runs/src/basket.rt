@@ -3,7 +3,7 @@ ghost use Rattle.std.specs.Prelude.{◌+◌};
 ghost use Rattle.rule.specs.Layout.{view};
 ghost use Rattle.runs.specs.Running.{done_to, Done, BasketAsks, AllocateAsks};
 
-use matched::Counts;
+use rule::Counts;
 
 // The matches of the basket, filled one after the other.
 fn allocate(

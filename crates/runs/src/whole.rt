@@ -4,7 +4,7 @@ ghost use Rattle.runs.specs.Running.{Start};
 ghost use Rattle.runs.specs.Ran.{BasketsAsk, BasketsDone, Cleared, Ran};
 
 use crate::basket;
-use matched::Counts;
+use rule::Counts;
 
 // "Basket by basket, A first".
 fn run_baskets(

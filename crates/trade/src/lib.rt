@@ -9,7 +9,7 @@ ghost use Rattle.trade.specs.Positions.{Movable, Tradable, moved_of};
 ghost use Rattle.trade.specs.Checked.{Between, trade_between, trade_sound};
 
 use book::{limits, sound};
-use rule::{Answer, Refusal, Yen};
+use rule::{Refusal, Yen};
 
 // "amount 0 or above 10^12 yen"
 const AMOUNT_LIMIT: u64 = 1_000_000_000_000;
@@ -55,65 +55,65 @@ fn write_trade(book: &mut [u64], seller: usize, buyer: usize, yen: u64)
 }
 
 // Between two participants of the day: the checks on the basket, the positions and the count, and then the writes.
-fn trade_between(book: &mut [u64], seller: u64, buyer: u64, basket: u64, yen: u64) -> Answer
+fn trade_between(book: &mut [u64], seller: u64, buyer: u64, basket: u64, yen: u64) -> Result<(), Refusal>
     requires { Between book.old seller buyer basket yen }
     ensures { (told result, book.new) ≡ trade_between book.old seller buyer basket yen }
 {
     if !sound::tradable(book, basket as usize) {
-        return Answer::Refused(Refusal::NoUnmarkedIssue);
+        return Err(Refusal::NoUnmarkedIssue);
     }
     let at_seller = place(basket, seller);
     let at_buyer = place(basket, buyer);
     let sold = owed_after(book[at_seller], yen);
     let bought = due_after(book[at_buyer], yen);
     if sold > limits::POSITION {
-        return Answer::Refused(Refusal::PositionTooLarge);
+        return Err(Refusal::PositionTooLarge);
     }
     if bought > limits::POSITION {
-        return Answer::Refused(Refusal::PositionTooLarge);
+        return Err(Refusal::PositionTooLarge);
     }
     if book[layout::TRADES] >= limits::TRADES {
-        return Answer::Refused(Refusal::TooManyTrades);
+        return Err(Refusal::TooManyTrades);
     }
     write_trade(book, at_seller, at_buyer, yen);
-    Answer::Accepted
+    Ok(())
 }
 
 // In a sound book: the checks on the day, the parties and the amount come first.
-fn trade_sound(book: &mut [u64], seller: u64, buyer: u64, basket: u64, yen: u64) -> Answer
+fn trade_sound(book: &mut [u64], seller: u64, buyer: u64, basket: u64, yen: u64) -> Result<(), Refusal>
     requires { SoundBook book.old }
     ensures { (told result, book.new) ≡ trade_sound book.old seller buyer basket yen }
 {
     if book[layout::RUNS] >= 3 {
-        return Answer::Refused(Refusal::ThreeRunsDone);
+        return Err(Refusal::ThreeRunsDone);
     }
     let participants = book[layout::PARTICIPANTS];
     if seller >= participants {
-        return Answer::Refused(Refusal::NotOfDay);
+        return Err(Refusal::NotOfDay);
     }
     if buyer >= participants {
-        return Answer::Refused(Refusal::NotOfDay);
+        return Err(Refusal::NotOfDay);
     }
     if basket >= 7 {
-        return Answer::Refused(Refusal::NotOfDay);
+        return Err(Refusal::NotOfDay);
     }
     if seller == buyer {
-        return Answer::Refused(Refusal::NotOfDay);
+        return Err(Refusal::NotOfDay);
     }
     if yen == 0 {
-        return Answer::Refused(Refusal::WrongAmount);
+        return Err(Refusal::WrongAmount);
     }
     if yen > AMOUNT_LIMIT {
-        return Answer::Refused(Refusal::WrongAmount);
+        return Err(Refusal::WrongAmount);
     }
     trade_between(book, seller, buyer, basket, yen)
 }
 
-pub fn trade(book: &mut [u64], seller: u64, buyer: u64, basket: u64, amount: Yen) -> Answer
+pub fn trade(book: &mut [u64], seller: u64, buyer: u64, basket: u64, amount: Yen) -> Result<(), Refusal>
     ensures { (told result, book.new) ≡ trade_of book.old seller buyer basket amount.0 }
 {
     if !sound::sound(book) {
-        return Answer::Refused(Refusal::UnsoundBook);
+        return Err(Refusal::UnsoundBook);
     }
     trade_sound(book, seller, buyer, basket, amount.0)
 }
