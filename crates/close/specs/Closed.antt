@@ -6,12 +6,6 @@ use Rattle.lists.specs.Parts.{grid, over}
 use Rattle.rule.specs.Calls.{Reply, accepted, answer, close_checks, tomorrow_receipts, tomorrow_pairs}
 use Rattle.rule.specs.Layout.{book_length, tally_at, today_at, plus, cube, view}
 
--- n rows of n cells, one after the other in the one, twelve apart in the other
-pub record Gathers (cells : List ℕ) (at n : ℕ) (source : List ℕ) (from : ℕ) : Type 0 where
-  pub few : n ≤ 12
-  pub room : at + n * n ≤ length cells
-  pub rows : from + 12 * n ≤ length source
-
 pub record ReceiptsFit (b receipts : List ℕ) : Type 0 where
   pub size : length b ≡ book_length
   pub few : get_or b 0 0 ≤ 12

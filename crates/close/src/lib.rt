@@ -2,12 +2,10 @@
 #![tactic(auto)]
 
 ghost use Rattle.std.specs.Prelude.{◌≡◌};
-ghost use Rattle.lists.specs.Parts.{grid, over};
-ghost use Rattle.lists.specs.Folds.{joined};
 ghost use Rattle.rule.specs.Layout.{close_of};
 ghost use Rattle.rule.specs.Answers.{told};
 ghost use Rattle.rule.proofs.BookLaws.{SoundBook};
-ghost use Rattle.close.specs.Closed.{Gathers, ReceiptsFit, PairsFit, receipts_written, pairs_written, close_sound};
+ghost use Rattle.close.specs.Closed.{ReceiptsFit, PairsFit, receipts_written, pairs_written, close_sound};
 
 use book::sound;
 use rule::Refusal;
@@ -19,37 +17,14 @@ fn write_receipts(book: &[u64], receipts: &mut [u64])
 {
     let participants = book[layout::PARTICIPANTS] as usize;
     let issues = book[layout::ISSUES] as usize;
-    let mut p = 0;
-    let mut to = 0;
-    let mut o = layout::TALLY;
-    while p < participants {
-        let e = to + issues;
-        rows::copy_owed(&mut receipts[to..e], book, o);
-        to += issues;
-        o += layout::MOST_ISSUES;
-        p += 1;
-    }
-}
-
-// One basket's marks: n rows of n cells, one after the other. Rows that stand so in the book too are copied as one.
-fn write_square(cells: &mut [u64], at: usize, n: usize, book: &[u64], from: usize)
-    requires { Gathers cells.old at n book.now from }
-    ensures { cells.new ≡ over cells.old at (joined (grid book.now from 12 n n)) }
-{
-    if n == layout::MOST_PARTICIPANTS {
-        let end = at + n * n;
-        lists::copy(&mut cells[at..end], book, from);
-        return;
-    }
-    let mut p = 0;
-    let mut to = at;
-    let mut o = from;
-    while p < n {
-        let e = to + n;
-        lists::copy(&mut cells[to..e], book, o);
-        to += n;
-        o += layout::MOST_PARTICIPANTS;
-        p += 1;
+    for p in 0..participants {
+        let to = issues * p;
+        let from = layout::TALLY + layout::MOST_ISSUES * p;
+        rows::copy_with(
+            &mut receipts[to..to + issues],
+            &book[from..from + issues],
+            sound::owed_of,
+        );
     }
 }
 
@@ -60,14 +35,17 @@ fn write_pairs(book: &[u64], pairs: &mut [u64])
 {
     let participants = book[layout::PARTICIPANTS] as usize;
     let square = participants * participants;
-    let mut k = 0;
-    let mut to = 0;
-    let mut o = layout::TODAY;
-    while k < layout::BASKETS {
-        write_square(&mut *pairs, to, participants, book, o);
-        to += square;
-        o += layout::SQUARE;
-        k += 1;
+    for k in 0..layout::BASKETS {
+        rows::copy_rows(
+            &mut *pairs,
+            square * k,
+            participants,
+            participants,
+            participants,
+            book,
+            layout::TODAY + layout::SQUARE * k,
+            layout::MOST_PARTICIPANTS,
+        );
     }
 }
 

@@ -1,11 +1,12 @@
 -- Laws of a basket's plan. Assumes nothing.
-use mathlib.Core.Path.{◌≡◌, ap, ap₂, ◌∙◌}
+use mathlib.Core.Path.{◌≡◌, sym, ap, ap₂, ◌∙◌}
 use mathlib.Core.List.{List, map}
-use Prim.Native.Nat.{ℕ, ◌+◌, ◌-◌, ◌*◌, ◌≤◌}
+use Prim.Native.Nat.{ℕ, ◌+◌, ◌-◌, ◌*◌, ◌≤◌, ◌<◌}
 use native.Mathlib.Omega.{arith}
 use lib.ListN.{length, get_or, take, drop, length-map}
 use Rattle.lists.specs.Parts.{block, grid}
 use Rattle.lists.proofs.PartLaws.{length-block, part-is, part_length}
+use Rattle.rows.proofs.RowLaws.{made-block}
 use Rattle.rule.specs.Matching.{plan}
 use Rattle.rule.specs.Layout.{pairs_at, positions_at, plus, minus}
 use Rattle.matching.specs.Plans.{Basket, Planned, pair_marks}
@@ -25,6 +26,12 @@ module _ (b draw : List ℕ) (k : ℕ) (owed due cells : List ℕ) (h : PlanRows
 
   pub positions-fit : at + n ≤ length b
   positions-fit = omega (arith, h.plannable.sized.cells, h.plannable.sized.participants, h.plannable.basket)
+
+  -- a participants' row that was made of the positions, cell by cell
+  pub taken : (g : ℕ → ℕ) (row part : List ℕ) → length row ≡ n → length part ≡ length row
+      → ((i : ℕ) → i < length (take (at + length owed - at) (drop at b)) → get_or part i 0 ≡ g (get_or (take (at + length owed - at) (drop at b)) i 0))
+      → part ≡ map g (block b at (length row))
+  taken g row part e l each = made-block g b at (length owed) (length row) part (omega (arith, positions-fit, h.owing)) (e ∙ sym h.owing) l each
 
   pairs_fit : pairs + 144 ≤ length b
   pairs_fit = omega (arith, h.plannable.sized.cells, h.plannable.basket)

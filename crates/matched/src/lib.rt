@@ -5,6 +5,7 @@ ghost use Rattle.filling.specs.Match.{FilledAs};
 ghost use Rattle.matching.specs.Plans.{Planned};
 ghost use Rattle.matched.specs.Filled.{Plannable, PlanRows, plan_in, UsableAsked, UsableLots, Fillable, filled_in, LotsWritable, LotsWritten, Writable, Wrote};
 
+use book::sound;
 use filling::Filling;
 use records::{booking, issues, listing};
 use rule::{Counts, Yen};
@@ -24,8 +25,9 @@ fn plan_rows(
     let positions = layout::POSITIONS + layout::MOST_PARTICIPANTS * basket;
     let pairs = layout::PAIRS + layout::SQUARE * basket;
     let pairs_end = pairs + layout::SQUARE;
-    rows::copy_owed(&mut *owed, book, positions);
-    rows::copy_due(&mut *due, book, positions);
+    let positions_end = positions + owed.len();
+    rows::copy_with(&mut *owed, &book[positions..positions_end], sound::owed_of);
+    rows::copy_with(&mut *due, &book[positions..positions_end], sound::due_of);
     matching::plan(
         book[layout::RUNS],
         &book[pairs..pairs_end],

@@ -1,8 +1,8 @@
 // A notice: "replaces its sender's earlier one for the coming run, unnamed issues counting 0".
 #![tactic(auto)]
 
-ghost use Rattle.std.specs.Prelude.{◌≡◌, ◌+◌, ◌*◌, ◌<◌, length, get_or, ltb};
-ghost use Rattle.lists.specs.Tests.{all_below};
+ghost use Rattle.std.specs.Prelude.{◌≡◌, ◌+◌, ◌*◌, ◌<◌, length, ltb};
+ghost use Rattle.std.specs.List.{list_all};
 ghost use Rattle.rule.specs.Day.{notice_row};
 ghost use Rattle.rule.specs.Calls.{distinct};
 ghost use Rattle.rule.specs.Layout.{notice_of};
@@ -15,16 +15,9 @@ use rule::Refusal;
 
 // Does each entry name an issue of the day?
 fn all_of_day(named: &[u64], issues: u64) -> bool
-    ensures { result ≡ all_below (length named.now) (λ j. ltb (get_or named.now j 0) issues) }
+    ensures { result ≡ list_all (λ issue. ltb issue issues) named.now }
 {
-    let mut j = 0;
-    while j < named.len() {
-        if named[j] >= issues {
-            return false;
-        }
-        j += 1;
-    }
-    true
+    named.iter().all(|issue| *issue < issues)
 }
 
 // Is no issue named twice? Each is marked when it is met.
@@ -32,15 +25,13 @@ fn all_distinct(named: &[u64]) -> bool
     requires { Named 32 named.now }
     ensures { result ≡ distinct named.now }
 {
-    let mut met = [false; 32];
-    let mut j = 0;
-    while j < named.len() {
-        let issue = named[j] as usize;
-        if met[issue] {
+    let mut met = [false; layout::MOST_ISSUES];
+    for issue in named {
+        let place = *issue as usize;
+        if met[place] {
             return false;
         }
-        met[issue] = true;
-        j += 1;
+        met[place] = true;
     }
     true
 }
@@ -50,12 +41,9 @@ fn write_row(row: &mut [u64], named: &[u64], lots: &[u64])
     requires { Entries (length row.old) named.now lots.now }
     ensures { row.new ≡ notice_row (length row.old) named.now lots.now }
 {
-    lists::clear(&mut *row);
-    let mut j = 0;
-    while j < named.len() {
-        let issue = named[j] as usize;
-        row[issue] = lots[j];
-        j += 1;
+    row.fill(0);
+    for (j, issue) in named.iter().enumerate() {
+        row[*issue as usize] = lots[j];
     }
 }
 
@@ -81,7 +69,7 @@ fn notice_sound(book: &mut [u64], participant: u64, named: &[u64], lots: &[u64])
     if participant >= book[layout::PARTICIPANTS] {
         return Err(Refusal::NotOfDay);
     }
-    if named.len() == 0 {
+    if named.is_empty() {
         return Err(Refusal::WrongEntry);
     }
     if named.len() != lots.len() {

@@ -2,7 +2,7 @@
 use mathlib.Core.Path.{◌≡◌, refl, sym, ap, ap₂, ◌∙◌}
 use mathlib.Core.Logic.{inr, ◌≢◌}
 use Prim.Native.Nat.{ℕ, zero, suc, ◌+◌, ◌*◌, ◌≤◌, ◌<◌}
-use native.Mathlib.Nat.{mul-le-mul, mul-le-mul_left, mul-suc, mul-zero, mul_comm}
+use native.Mathlib.Nat.{mul-le-mul, mul-le-mul_left, mul-suc, mul_comm, le_refl}
 use native.Mathlib.Decide.{ℕ_discrete, dec_lt}
 use native.Mathlib.Numerals.{add-one}
 use native.Mathlib.Omega.{arith}
@@ -25,9 +25,9 @@ use Rattle.rule.proofs.LayoutLaws.{terms-rows}
 use Rattle.rule.proofs.SoundLaws.{Sizes, sizes-of}
 use Rattle.rule.proofs.AnswerLaws.{answers}
 use Rattle.rule.proofs.OpenLaws.{Openable, open-stored}
-use Rattle.opening.specs.Cells.{Copies}
+use Rattle.rows.specs.Rows.{Copies}
 use Rattle.opening.specs.Opened.{Marks, Tables, Lengths, marks_written, open_written, open_lengths}
-use Rattle.opening.proofs.CellLaws.{copied-length}
+use Rattle.rows.proofs.CopyLaws.{copied-length}
 
 -- ---- bytes that become cells, one after the other
 
@@ -113,58 +113,50 @@ squares-more n pairs k =
     joined-more (squares n pairs) 0 k
     ∙ ap (λ (l : List (ℕ × List ℕ)). joined (table k (squares n pairs)) ++ l) (append-nil (squares n pairs (0 + k)) ∙ ap (squares n pairs) z)
 
--- the marks of the baskets below k are copied; `at` and `from` are where the next ones go to and come from
-pub record Marked (b : List ℕ) (n : ℕ) (pairs c : List ℕ) (square k at from : ℕ) : Type 0 where
-  pub here : k ≤ 7
-  pub squared : square ≡ n * n
-  pub place : at ≡ pairs_at + 144 * k
-  pub origin : from ≡ n * n * k
+-- the marks of the baskets below k are copied
+pub record Marked (b : List ℕ) (n : ℕ) (pairs c : List ℕ) (k : ℕ) : Type 0 where
   pub size : length c ≡ length b
   pub rows : c ≡ written b (joined (table k (squares n pairs)))
 
 module _ (b : List ℕ) (n : ℕ) (pairs : List ℕ) (m : Marks b n pairs) where
-  pub marked-none : Marked b n pairs b (n * n) 0 pairs_at 0
-  marked-none = record { here = omega arith; squared = refl; place = omega arith; origin = omega (arith, mul-zero (n * n)); size = refl; rows = refl }
+  pub marked-none : Marked b n pairs b 0
+  marked-none = record { size = refl; rows = refl }
 
   -- squared numbers of participants are small
   pub square-small : n * n ≤ 144
   square-small = mul-le-mul m.few m.few
 
-  module _ {c : List ℕ} {square k at from : ℕ} (h : Marked b n pairs c square k at from) (l : k < 7) where
-    pub room_at : at + 12 * n ≤ length c
-    room_at = omega (arith, h.place, h.size, m.size, m.few)
+  -- a basket's marks have room
+  pub marks-of : (c : List ℕ) (k : ℕ) → length c ≡ length b → k < 7 → Copies c (pairs_at + 144 * k) 12 n n pairs (n * n * k) n
+  marks-of c k e l = record {
+    wide = m.few;
+    room = omega (arith, m.size, m.few, e);
+    source_wide = le_refl n;
+    rows = omega (arith, m.marks, mul-le-mul_left (n * n) l, mul-suc (n * n) k, mul_comm (n * n) 7);
+  }
 
-    pub room-from : from + n * n ≤ length pairs
-    room-from = omega (arith, h.origin, m.marks, mul-le-mul_left (n * n) l, mul-suc (n * n) k, mul_comm (n * n) 7)
+  pub marked_more : {c : List ℕ} {k : ℕ} → k < 7 → Marked b n pairs c k → (d : List ℕ)
+      → d ≡ written c (rows_at (pairs_at + 144 * k) 12 (grid pairs (n * n * k) n n n)) → Marked b n pairs d (k + 1)
+  marked_more {c} {k} l h d r = record {
+    size = ap length r ∙ copied-length c (pairs_at + 144 * k) 12 n n pairs (n * n * k) n (marks-of c k h.size l) ∙ h.size;
+    rows = r ∙ ap (λ (x : List ℕ). written x (squares n pairs k)) h.rows
+        ∙ sym (written-append (joined (table k (squares n pairs))) (squares n pairs k) b)
+        ∙ sym (ap (written b) (squares-more n pairs k))
+        ∙ sym (ap (λ (i : ℕ). written b (joined (table i (squares n pairs)))) (add-one k));
+  }
 
-    pub marked_more : (d : List ℕ) → length d ≡ length c → d ≡ written c (rows_at at 12 (grid pairs from n n n)) → Marked b n pairs d square (k + 1) (at + 144) (from + square)
-    marked_more d e r = record {
-      here = omega arith;
-      squared = h.squared;
-      place = omega (arith, h.place);
-      origin = omega (arith, h.origin, h.squared, mul-suc (n * n) k, ap (λ (i : ℕ). n * n * i) (add-one k));
-      size = e ∙ h.size;
-      rows = r ∙ ap₂ (λ (i j : ℕ). written c (rows_at i 12 (grid pairs j n n n))) h.place h.origin
-          ∙ ap (λ (x : List ℕ). written x (squares n pairs k)) h.rows
-          ∙ sym (written-append (joined (table k (squares n pairs))) (squares n pairs k) b)
-          ∙ sym (ap (written b) (squares-more n pairs k))
-          ∙ sym (ap (λ (i : ℕ). written b (joined (table i (squares n pairs)))) (add-one k));
-    }
-
-  pub marked_all : {c : List ℕ} {square k at from : ℕ} → Marked b n pairs c square k at from → 7 ≤ k → c ≡ marks_written b n pairs
+  pub marked_all : {c : List ℕ} {k : ℕ} → k ≡ 7 → Marked b n pairs c k → c ≡ marks_written b n pairs
   unfolding marks_written
-  marked_all {k = k} h l = let e : k ≡ 7 = omega (arith, h.here) in h.rows ∙ ap (λ (i : ℕ). written b (joined (table i (squares n pairs)))) e
+  marked_all e h = h.rows ∙ ap (λ (i : ℕ). written b (joined (table i (squares n pairs)))) e
 
   length-squares : (k : ℕ) → k ≤ 7 → length (written b (joined (table k (squares n pairs)))) ≡ length b
   length-squares zero l = refl
   length-squares (suc k) l =
       let c : List ℕ = written b (joined (table k (squares n pairs))) in
       let e : length c ≡ length b = length-squares k (omega arith) in
-      let fit : Copies c (pairs_at + 144 * k) 12 n n pairs (n * n * k) =
-      record { wide = m.few; room = omega (arith, m.size, m.few, e); rows = omega (arith, m.marks, mul-le-mul_left (n * n) l, mul-suc (n * n) k, mul_comm (n * n) 7) } in
       ap (λ (ws : List (ℕ × List ℕ)). length (written b ws)) (squares-more n pairs k)
       ∙ ap length (written-append (joined (table k (squares n pairs))) (squares n pairs k) b)
-      ∙ copied-length c (pairs_at + 144 * k) 12 n n pairs (n * n * k) fit ∙ e
+      ∙ copied-length c (pairs_at + 144 * k) 12 n n pairs (n * n * k) n (marks-of c k e l) ∙ e
 
   pub length-marks : length (marks_written b n pairs) ≡ length b
   unfolding marks_written
@@ -182,27 +174,27 @@ module _ (n m : ℕ) (codes terms receipts pairs b : List ℕ) (t : Tables n m c
   length-sized : length (sized x₀ n m) ≡ book_length
   length-sized = length-set (set x₀ 0 n) 1 m ∙ length-set x₀ 0 n ∙ length-cleared
 
-  pub codes_room : Copies (sized x₀ n m) codes_at 12 m 12 codes 0
-  codes_room = record { wide = omega arith; room = omega (arith, length-sized, t.most); rows = omega (arith, t.codes_room) }
+  pub codes_room : Copies (sized x₀ n m) codes_at 12 m 12 codes 0 12
+  codes_room = record { wide = omega arith; source_wide = omega arith; room = omega (arith, length-sized, t.most); rows = omega (arith, t.codes_room) }
 
   module _ (x₁ : List ℕ) (e₁ : x₁ ≡ written (sized x₀ n m) (rows_at codes_at 12 (grid codes 0 12 m 12))) where
     length₁ : length x₁ ≡ book_length
-    length₁ = ap length e₁ ∙ copied-length (sized x₀ n m) codes_at 12 m 12 codes 0 codes_room ∙ length-sized
+    length₁ = ap length e₁ ∙ copied-length (sized x₀ n m) codes_at 12 m 12 codes 0 12 codes_room ∙ length-sized
 
-    pub terms-room : Copies x₁ terms_at 6 m 6 terms 0
-    terms-room = record { wide = omega arith; room = omega (arith, length₁, t.most); rows = omega (arith, t.terms_size) }
+    pub terms-room : Copies x₁ terms_at 6 m 6 terms 0 6
+    terms-room = record { wide = omega arith; source_wide = omega arith; room = omega (arith, length₁, t.most); rows = omega (arith, t.terms_size) }
 
     module _ (x₂ : List ℕ) (e₂ : x₂ ≡ written x₁ (rows_at terms_at 6 (grid terms 0 6 m 6))) where
       length₂ : length x₂ ≡ book_length
-      length₂ = ap length e₂ ∙ copied-length x₁ terms_at 6 m 6 terms 0 terms-room ∙ length₁
+      length₂ = ap length e₂ ∙ copied-length x₁ terms_at 6 m 6 terms 0 6 terms-room ∙ length₁
 
-      pub receipts-room : Copies x₂ receipts_at 32 n m receipts 0
-      receipts-room = record { wide = t.most; room = omega (arith, length₂, t.marks.few); rows = omega (arith, t.receipts_size, mul_comm m n) }
+      pub receipts-room : Copies x₂ receipts_at 32 n m receipts 0 m
+      receipts-room = record { wide = t.most; source_wide = le_refl m; room = omega (arith, length₂, t.marks.few); rows = omega (arith, t.receipts_size, mul_comm m n) }
 
       module _ (x₃ : List ℕ) (e₃ : x₃ ≡ written x₂ (rows_at receipts_at 32 (grid receipts 0 m n m))) where
         pub marks-room : Marks x₃ n pairs
         marks-room = record {
-          size = ap length e₃ ∙ copied-length x₂ receipts_at 32 n m receipts 0 receipts-room ∙ length₂;
+          size = ap length e₃ ∙ copied-length x₂ receipts_at 32 n m receipts 0 m receipts-room ∙ length₂;
           few = t.marks.few;
           marks = t.marks.marks;
         }

@@ -1,3 +1,2 @@
 -- What the contracts of an opening cite besides the rule.
-pub mod Cells
 pub mod Opened

@@ -7,8 +7,6 @@ ghost use Rattle.rule.specs.Layout.{open_of};
 ghost use Rattle.rule.specs.Answers.{told};
 ghost use Rattle.opening.specs.Opened.{Wide, Marks, Lengths, Tables, marks_written, open_written, open_lengths};
 
-mod cells;
-
 use book::limits;
 use rule::Refusal;
 
@@ -17,10 +15,8 @@ fn widen(codes: &[u8], cells: &mut [u64])
     requires { Wide codes.now cells.old }
     ensures { cells.new ≡ over cells.old 0 codes.now }
 {
-    let mut i = 0;
-    while i < codes.len() {
-        cells[i] = lists::wide(codes[i]);
-        i += 1;
+    for (i, byte) in codes.iter().enumerate() {
+        cells[i] = u64::from(*byte);
     }
 }
 
@@ -30,22 +26,17 @@ fn copy_marks(book: &mut [u64], participants: usize, pairs: &[u64])
     ensures { book.new ≡ marks_written book.old participants pairs.now }
 {
     let square = participants * participants;
-    let mut k = 0;
-    let mut at = layout::PAIRS;
-    let mut from = 0;
-    while k < layout::BASKETS {
-        cells::copy_rows(
+    for k in 0..layout::BASKETS {
+        rows::copy_rows(
             &mut *book,
-            at,
+            layout::PAIRS + layout::SQUARE * k,
             layout::MOST_PARTICIPANTS,
             participants,
             participants,
             pairs,
-            from,
+            square * k,
+            participants,
         );
-        at += layout::SQUARE;
-        from += square;
-        k += 1;
     }
 }
 
@@ -62,10 +53,10 @@ fn write_open(
     requires { Tables participants issues codes.now terms.now receipts.now pairs.now book.old }
     ensures { book.new ≡ open_written participants issues codes.now terms.now receipts.now pairs.now }
 {
-    lists::clear(&mut *book);
+    book.fill(0);
     book[layout::PARTICIPANTS] = participants as u64;
     book[layout::ISSUES] = issues as u64;
-    cells::copy_rows(
+    rows::copy_rows(
         &mut *book,
         layout::CODES,
         layout::CODE,
@@ -73,8 +64,9 @@ fn write_open(
         layout::CODE,
         codes,
         0,
+        layout::CODE,
     );
-    cells::copy_rows(
+    rows::copy_rows(
         &mut *book,
         layout::TERMS,
         layout::TERM,
@@ -82,8 +74,9 @@ fn write_open(
         layout::TERM,
         terms,
         0,
+        layout::TERM,
     );
-    cells::copy_rows(
+    rows::copy_rows(
         &mut *book,
         layout::RECEIPTS,
         layout::MOST_ISSUES,
@@ -91,6 +84,7 @@ fn write_open(
         issues,
         receipts,
         0,
+        issues,
     );
     copy_marks(&mut *book, participants, pairs);
 }
@@ -143,10 +137,10 @@ pub fn open(
     }
     let n = participants as usize;
     let m = issues as usize;
-    if codes.len() != 12 * m {
+    if codes.len() != layout::CODE * m {
         return Err(Refusal::WrongSize);
     }
-    if terms.len() != 6 * m {
+    if terms.len() != layout::TERM * m {
         return Err(Refusal::WrongSize);
     }
     if receipts.len() != n * m {

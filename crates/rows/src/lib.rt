@@ -1,36 +1,44 @@
-// Loops over one row of cells.
+// Rows of cells, copied.
 #![tactic(auto)]
 
-ghost use Rattle.std.specs.Prelude.{◌≡◌, map, length};
-ghost use Rattle.lists.specs.Parts.{block, Fits};
-ghost use Rattle.rule.specs.Layout.{plus, minus};
+ghost use Rattle.std.specs.Prelude.{◌≡◌, ℕ, ◌<◌, length, slice_index};
+ghost use Rattle.lists.specs.Parts.{grid, rows_at, written};
+ghost use Rattle.rows.specs.Rows.{Copies};
 
-use book::sound;
-
-// The cells become what is owed by the source's from a place on: "where positive, else 0".
-pub fn copy_owed(cells: &mut [u64], source: &[u64], from: usize)
-    requires { Fits cells.old source.now from }
-    ensures { cells.new ≡ map plus (block source.now from (length cells.old)) }
+// Each cell becomes what f makes of the source's.
+pub fn copy_with<F: Fn(u64) -> u64>(cells: &mut [u64], source: &[u64], f: F)
+    requires same_size { length cells.old ≡ length source.now }
+    requires callable { F.IsAlwaysCallable f }
+    ensures { (i : ℕ) → i < length source.now → F.post f (slice_index source.now i) (slice_index cells.new i) }
 {
-    let mut i = 0;
-    while i < cells.len() {
-        let cell = source[from + i];
-        let owed = sound::owed_of(cell);
-        cells[i] = owed;
-        i += 1;
+    for (i, cell) in cells.iter_mut().enumerate() {
+        *cell = f(source[i]);
     }
 }
 
-// What is due to them.
-pub fn copy_due(cells: &mut [u64], source: &[u64], from: usize)
-    requires { Fits cells.old source.now from }
-    ensures { cells.new ≡ map minus (block source.now from (length cells.old)) }
+// n rows of m cells: from places so far apart in the source, to places a stride apart. Rows that stand one after the other in both are
+// copied as one.
+pub fn copy_rows(
+    cells: &mut [u64],
+    at: usize,
+    stride: usize,
+    n: usize,
+    m: usize,
+    source: &[u64],
+    from: usize,
+    apart: usize,
+)
+    requires { Copies cells.old at stride n m source.now from apart }
+    ensures { cells.new ≡ written cells.old (rows_at at stride (grid source.now from apart n m)) }
 {
-    let mut i = 0;
-    while i < cells.len() {
-        let cell = source[from + i];
-        let due = sound::due_of(cell);
-        cells[i] = due;
-        i += 1;
+    if stride == m && apart == m {
+        let end = at + n * m;
+        cells[at..end].copy_from_slice(&source[from..from + n * m]);
+        return;
+    }
+    for p in 0..n {
+        let to = at + stride * p;
+        let o = from + apart * p;
+        cells[to..to + m].copy_from_slice(&source[o..o + m]);
     }
 }

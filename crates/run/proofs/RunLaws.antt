@@ -31,30 +31,9 @@ use Rattle.run.specs.Checked.{run_sound}
 abbrev pub named : ℕ → ℕ → ℕ
 named p x = pick (eqb x p) 1 0
 
--- in its first j entries
-pub record NamedTo (draw : List ℕ) (p times j : ℕ) : Type 0 where
-  pub here : j ≤ length draw
-  pub counted : times ≡ total (named p) (take j draw)
-  pub few : times ≤ j
-
-module _ (draw : List ℕ) (p : ℕ) where
-  pub named_none : NamedTo draw p 0 0
-  named_none = record { here = omega arith; counted = refl; few = omega arith }
-
-  pub named_more : {times j one : ℕ} → NamedTo draw p times j → j < length draw → one ≡ named p (get_or draw j 0) → NamedTo draw p (times + one) (j + 1)
-  named_more {times} {j} {one} w l e =
-      let most : named p (get_or draw j 0) ≤ 1 = pick-elim (λ (x : ℕ). x ≤ 1) (eqb (get_or draw j 0) p) 1 0 (omega arith) (omega arith) in
-      record {
-        here = omega arith;
-        counted = sym (ap (λ (i : ℕ). total (named p) (take i draw)) (add-one j) ∙ ap (total (named p)) (take-suc draw j 0 l) ∙ total-append (named p) (take j draw) (get_or draw j 0 ∷ []) ∙ omega (arith, w.counted, e));
-        few = omega (arith, w.few);
-      }
-
-  pub named-all : {times j : ℕ} → NamedTo draw p times j → length draw ≤ j → times ≡ total (named p) draw
-  named-all {times} {j} w l = w.counted ∙ ap (total (named p)) (take_all j draw l)
-
-pub one-most : {x : ℕ} (t : Bool) → x ≡ pick t 1 0 → x ≤ 1
-one-most {x} t e = subst (λ (z : ℕ). z ≤ 1) (sym e) (pick-elim (λ (z : ℕ). z ≤ 1) t 1 0 (omega arith) (omega arith))
+pub named-all : (draw : List ℕ) (p : ℕ) → count_by (λ x. eqb x p) draw ≡ total (named p) draw
+named-all [] p = refl
+named-all (x ∷ xs) p = ?
 
 -- ---- whether it names each participant once
 

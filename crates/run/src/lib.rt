@@ -1,9 +1,7 @@
 // A run: "returns its counts and writes two lists".
 #![tactic(auto)]
 
-ghost use Rattle.std.specs.Prelude.{◌≡◌, ℕ, eqb};
-ghost use Rattle.lists.specs.Tests.{pick};
-ghost use Rattle.lists.specs.Folds.{total};
+ghost use Rattle.std.specs.Prelude.{◌≡◌, ◌==◌, count_by};
 ghost use Rattle.rule.specs.Calls.{each_once};
 ghost use Rattle.rule.specs.Layout.{run_of};
 ghost use Rattle.rule.specs.Answers.{told_run};
@@ -19,14 +17,10 @@ const MATCH_CELLS: usize = 7 * 77;
 const LINE_CELLS: usize = 3 * 2464;
 
 // How many times the draw names the participant.
-fn times_named(draw: &[u64], participant: u64) -> u64
-    ensures { result ≡ total (λ (x : ℕ). pick (eqb x participant) 1 0) draw.now }
+fn times_named(draw: &[u64], participant: u64) -> usize
+    ensures { result ≡ count_by (λ named. named == participant) draw.now }
 {
-    let mut times = 0;
-    for j in 0..draw.len() {
-        times += lists::one_if(draw[j] == participant);
-    }
-    times
+    draw.iter().filter(|named| **named == participant).count()
 }
 
 // "the draw .. name[s] each participant once"
@@ -36,12 +30,10 @@ fn names_each_once(draw: &[u64], participants: u64) -> bool
     if draw.len() as u64 != participants {
         return false;
     }
-    let mut p = 0;
-    while p < participants {
+    for p in 0..participants {
         if times_named(draw, p) != 1 {
             return false;
         }
-        p += 1;
     }
     true
 }

@@ -22,23 +22,20 @@ fn place(basket: u64, participant: u64) -> usize
     layout::POSITIONS + layout::MOST_PARTICIPANTS * (basket as usize) + (participant as usize)
 }
 
-// What is owed after yen were added to a position, and what is due after they were taken from it.
+// What is owed after yen were added to a position.
 fn owed_after(cell: u64, yen: u64) -> u64
     requires { Movable cell yen }
     ensures { result ≡ plus cell + yen - minus cell }
 {
-    let owed = sound::owed_of(cell) + yen;
-    let due = sound::due_of(cell);
-    if owed < due { 0 } else { owed - due }
+    (sound::owed_of(cell) + yen).saturating_sub(sound::due_of(cell))
 }
 
+// What is due after yen were taken from it.
 fn due_after(cell: u64, yen: u64) -> u64
     requires { Movable cell yen }
     ensures { result ≡ minus cell + yen - plus cell }
 {
-    let due = sound::due_of(cell) + yen;
-    let owed = sound::owed_of(cell);
-    if due < owed { 0 } else { due - owed }
+    (sound::due_of(cell) + yen).saturating_sub(sound::owed_of(cell))
 }
 
 // The writes alone: two positions, and the count.

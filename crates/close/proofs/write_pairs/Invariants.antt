@@ -1,10 +1,6 @@
 -- `close::write_pairs` meets its contract: the marks of the baskets below k are written. Assumes nothing.
-use Rattle.std.proofs.Common.{◌-◌}
 use Rattle.close.proofs.CloseLaws.{Covered}
 use Rattle.close.proofs.write_pairs.Given as goal
 
 abbrev pub invariant-loop-k : goal.invariant-loop-k
-invariant-loop-k l = Covered l.book l.initial.pairs l.pairs l.k l.to l.o
-
-abbrev pub decreases-loop-k : goal.decreases-loop-k
-decreases-loop-k l = 7 - l.k
+invariant-loop-k l = Covered l.book l.initial.pairs l.pairs l.k

@@ -1,7 +1,7 @@
 -- `notice::notice_sound` meets its contract. Assumes nothing.
-use Rattle.std.proofs.Common.{◌≡◌, arith, eq-eqb, false, get_or, leb, length, ne_eqb, rules, true}
+use Rattle.std.proofs.Common.{◌≡◌, ◌∙◌, arith, eq-eqb, false, get_or, leb, length, ne_eqb, rules, true}
 use Rattle.std.proofs.lemmas.Bool.{lt-leb}
-use Rattle.lists.proofs.TestLaws.{said-no, said-yes}
+use Rattle.lists.proofs.TestLaws.{said-no, said-yes, all-listed}
 use Rattle.rule.specs.Calls.{notice_checks}
 use Rattle.rule.specs.Sound.{notice_limit}
 use Rattle.rule.specs.Day.{noticed}
@@ -20,35 +20,42 @@ pub returns-then-participant-book : goal.returns-then-participant-book
 unfolding notice_sound notice_checks view
 returns-then-participant-book c = search (answers, rules) depth 12
 
-pub returns-then-named-eq0 : goal.returns-then-named-eq0
+pub returns-then-is_empty : goal.returns-then-is_empty
 unfolding notice_sound notice_checks view
-returns-then-named-eq0 c = search (answers, rules) depth 12
+returns-then-is_empty c =
+    pass 6 _ _ _ _ _ _ (lt-leb _ _ c.if-book-ge3.false)
+    (pass 7 _ _ _ _ _ _ (lt-leb _ _ c.if-participant-book.false)
+    (refuse 12 _ _ _ _ _ (omega arith) (said-yes _ _ c.is_empty.ensures c.if-is_empty.true)))
 
 pub returns-then-named-lots : goal.returns-then-named-lots
 unfolding notice_sound notice_checks view
-returns-then-named-lots c = search (answers, rules) depth 12
+returns-then-named-lots c =
+    pass 6 _ _ _ _ _ _ (lt-leb _ _ c.if-book-ge3.false)
+    (pass 7 _ _ _ _ _ _ (lt-leb _ _ c.if-participant-book.false)
+    (pass 12 _ _ _ _ _ _ (said-no _ _ c.is_empty.ensures c.if-is_empty.false)
+    (refuse 12 _ _ _ _ _ (omega arith) (denied _ (ne_eqb _ _ c.if-named-lots.true)))))
 
 pub returns-then-not-all_of_day : goal.returns-then-not-all_of_day
 unfolding notice_sound notice_checks view
 returns-then-not-all_of_day c =
     pass 6 _ _ _ _ _ _ (lt-leb _ _ c.if-book-ge3.false)
     (pass 7 _ _ _ _ _ _ (lt-leb _ _ c.if-participant-book.false)
-    (pass 12 _ _ _ _ _ _ (ne_eqb _ _ c.if-named-eq0.false)
+    (pass 12 _ _ _ _ _ _ (said-no _ _ c.is_empty.ensures c.if-is_empty.false)
     (pass 12 _ _ _ _ _ _ (granted _ (eq-eqb _ _ c.if-named-lots.false))
-    (refuse 12 _ _ _ _ _ (omega arith) (denied _ (said-no _ _ c.all_of_day.ensures c.if-not-all_of_day.true))))))
+    (refuse 12 _ _ _ _ _ (omega arith) (denied _ (said-no _ _ (c.all_of_day.ensures ∙ all-listed _ _) c.if-not-all_of_day.true))))))
 
 pub all_distinct-requires : goal.all_distinct-requires
 all_distinct-requires c =
-    markable c.args.book.now c.requires c.args.named.now (said-yes _ _ c.all_of_day.ensures c.if-not-all_of_day.false)
+    markable c.args.book.now c.requires c.args.named.now (said-yes _ _ (c.all_of_day.ensures ∙ all-listed _ _) c.if-not-all_of_day.false)
 
 pub returns-then-not-all_distinct : goal.returns-then-not-all_distinct
 unfolding notice_sound notice_checks view
 returns-then-not-all_distinct c =
     pass 6 _ _ _ _ _ _ (lt-leb _ _ c.if-book-ge3.false)
     (pass 7 _ _ _ _ _ _ (lt-leb _ _ c.if-participant-book.false)
-    (pass 12 _ _ _ _ _ _ (ne_eqb _ _ c.if-named-eq0.false)
+    (pass 12 _ _ _ _ _ _ (said-no _ _ c.is_empty.ensures c.if-is_empty.false)
     (pass 12 _ _ _ _ _ _ (granted _ (eq-eqb _ _ c.if-named-lots.false))
-    (pass 12 _ _ _ _ _ _ (granted _ (said-yes _ _ c.all_of_day.ensures c.if-not-all_of_day.false))
+    (pass 12 _ _ _ _ _ _ (granted _ (said-yes _ _ (c.all_of_day.ensures ∙ all-listed _ _) c.if-not-all_of_day.false))
     (refuse 12 _ _ _ _ _ (omega arith) (denied _ (said-no _ _ c.all_distinct.ensures c.if-not-all_distinct.true)))))))
 
 pub returns-then-not-row_at_most : goal.returns-then-not-row_at_most
@@ -58,15 +65,15 @@ returns-then-not-row_at_most c =
     let many : all_below (length l) (λ i. leb (get_or l i 0) notice_limit) ≡ false = few-no l notice_limit _ c.row_at_most.ensures c.if-not-row_at_most.true-raw in
     pass 6 _ _ _ _ _ _ (lt-leb _ _ c.if-book-ge3.false)
     (pass 7 _ _ _ _ _ _ (lt-leb _ _ c.if-participant-book.false)
-    (pass 12 _ _ _ _ _ _ (ne_eqb _ _ c.if-named-eq0.false)
+    (pass 12 _ _ _ _ _ _ (said-no _ _ c.is_empty.ensures c.if-is_empty.false)
     (pass 12 _ _ _ _ _ _ (granted _ (eq-eqb _ _ c.if-named-lots.false))
-    (pass 12 _ _ _ _ _ _ (granted _ (said-yes _ _ c.all_of_day.ensures c.if-not-all_of_day.false))
+    (pass 12 _ _ _ _ _ _ (granted _ (said-yes _ _ (c.all_of_day.ensures ∙ all-listed _ _) c.if-not-all_of_day.false))
     (pass 12 _ _ _ _ _ _ (granted _ (said-yes _ _ c.all_distinct.ensures c.if-not-all_distinct.false))
     (refuse 13 _ _ _ _ _ (omega arith) (denied _ many)))))))
 
 pub write_notice-requires : goal.write_notice-requires
 write_notice-requires c =
-    writable c.args.book.now c.requires c.args.named.now (said-yes _ _ c.all_of_day.ensures c.if-not-all_of_day.false)
+    writable c.args.book.now c.requires c.args.named.now (said-yes _ _ (c.all_of_day.ensures ∙ all-listed _ _) c.if-not-all_of_day.false)
     c.args.participant c.args.lots.now c.if-participant-book.false c.if-named-lots.false
 
 pub returns : goal.returns
@@ -76,12 +83,12 @@ returns c =
     let l = c.args.lots.now in
     let few : all_below (length l) (λ i. leb (get_or l i 0) notice_limit) ≡ true = few-yes l notice_limit _ c.row_at_most.ensures c.if-not-row_at_most.false-raw in
     let made : c.write_notice.new.book ≡ stored b (noticed (view b) c.args.participant c.args.named.now l) =
-    accepted-notice b c.requires c.args.named.now (said-yes _ _ c.all_of_day.ensures c.if-not-all_of_day.false)
+    accepted-notice b c.requires c.args.named.now (said-yes _ _ (c.all_of_day.ensures ∙ all-listed _ _) c.if-not-all_of_day.false)
     c.args.participant l c.if-participant-book.false c.if-named-lots.false c.if-book-ge3.false few _ c.write_notice.ensures in
     pass 6 _ _ _ _ _ _ (lt-leb _ _ c.if-book-ge3.false)
     (pass 7 _ _ _ _ _ _ (lt-leb _ _ c.if-participant-book.false)
-    (pass 12 _ _ _ _ _ _ (ne_eqb _ _ c.if-named-eq0.false)
+    (pass 12 _ _ _ _ _ _ (said-no _ _ c.is_empty.ensures c.if-is_empty.false)
     (pass 12 _ _ _ _ _ _ (granted _ (eq-eqb _ _ c.if-named-lots.false))
-    (pass 12 _ _ _ _ _ _ (granted _ (said-yes _ _ c.all_of_day.ensures c.if-not-all_of_day.false))
+    (pass 12 _ _ _ _ _ _ (granted _ (said-yes _ _ (c.all_of_day.ensures ∙ all-listed _ _) c.if-not-all_of_day.false))
     (pass 12 _ _ _ _ _ _ (granted _ (said-yes _ _ c.all_distinct.ensures c.if-not-all_distinct.false))
     (pass 13 _ _ _ _ _ _ (granted _ few) (accept _ _ _ _ made)))))))

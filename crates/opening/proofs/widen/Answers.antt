@@ -1,4 +1,4 @@
-use Rattle.std.proofs.Common.{arith}
+use Rattle.std.proofs.Common.{arith, rules}
 use Rattle.opening.proofs.OpenLaws.{widened_none, widened_more, widened-all}
 use Rattle.opening.proofs.widen.Goals as goal
 
@@ -12,7 +12,7 @@ pub bounds-cells-i : goal.bounds-cells-i
 bounds-cells-i c = omega (arith, c.loop-i.invariant.size, c.requires.room)
 
 pub loop-i-preserved : goal.loop-i-preserved
-loop-i-preserved c = widened_more _ _ c.requires.room _ c.loop-i-test.true c.wide.ensures c.loop-i.invariant
+loop-i-preserved c = widened_more _ _ c.requires.room _ c.loop-i-test.true (search rules) c.loop-i.invariant
 
 pub shape_of-cells : goal.shape_of-cells
 shape_of-cells c = c.loop-i.invariant.size
