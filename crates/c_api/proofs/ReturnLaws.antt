@@ -7,8 +7,6 @@ use lib.ListN.{get_or}
 use Rattle.rule.specs.Calls.{Reply, accepted, counts, refused, most_matches, most_lines}
 use Rattle.rule.specs.Layout.{view, run_of}
 use Rattle.rule.specs.Answers.{told_run}
-use Rattle.rule.specs.declared.RunAnswer.{RunAnswer}
-use Rattle.rule.specs.declared.RunAnswer.TheVariants.{Ran}
 use Rattle.rule.proofs.RunLaws.{few-allocations}
 use Rattle.rule.proofs.RunLists.{few_lines}
 use Rattle.rule.proofs.RunCallLaws.{RunLeaves, run_sound}
@@ -19,12 +17,6 @@ pub for-c : {X : Type 0} (reply : Reply) (rest : X) (out : Reply × X) (number :
 for-c {X} reply rest out number e n = ap (λ (k : ℕ). (k, rest)) n ∙ ap (λ (o : Reply × X). for_c o) e
 
 -- an accepted run's counts
-pub fits-ran : (answer : RunAnswer) (matches lines : ℕ) → answer ≡ Ran matches lines → Fits (told_run answer) → (matches ≤ most_matches) × (lines ≤ most_lines)
-fits-ran answer matches lines e f = subst (λ (a : RunAnswer). Fits (told_run a)) e f
-
-pub returned-ran : (answer : RunAnswer) (matches lines number : ℕ) → answer ≡ Ran matches lines → number ≡ returned (counts matches lines) → number ≡ returned (told_run answer)
-returned-ran answer matches lines number e n = n ∙ sym (ap (λ (a : RunAnswer). returned (told_run a)) e)
-
 module _ (b draw matches lines : List ℕ) (words : (j : ℕ) → get_or b j 0 < 18446744073709551616) where
   counts-fit : (reply : Reply) → (run_of b draw matches lines).0 ≡ reply → Fits reply
   counts-fit accepted e = tt

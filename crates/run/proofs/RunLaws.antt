@@ -5,7 +5,9 @@ use native.Mathlib.Numerals.{add-one}
 use native.Mathlib.Omega.{arith}
 use borrow.Author.Rules.{rules}
 use mathlib.Core.Logic.{◌≢◌}
-use mathlib.Core.Bool.{Bool, true, false, ◌&&◌}
+use mathlib.Core.Bool.{Bool, true, false, ◌&&◌, cond}
+use Rattle.std.specs.List.{count_by}
+use Rattle.std.proofs.lemmas.List.Recursion.{is_count_by}
 use mathlib.Core.List.{List, [], ◌∷◌}
 use lib.ListN.{length, get_or, take}
 use lib.Seq.{take_all, take-suc}
@@ -32,8 +34,11 @@ abbrev pub named : ℕ → ℕ → ℕ
 named p x = pick (eqb x p) 1 0
 
 pub named-all : (draw : List ℕ) (p : ℕ) → count_by (λ x. eqb x p) draw ≡ total (named p) draw
-named-all [] p = refl
-named-all (x ∷ xs) p = ?
+named-all draw p = sym (is_count_by (total (named p)) (λ x. eqb x p) refl (λ x xs. one-more (eqb x p) (total (named p) xs)) draw)
+  where
+    one-more : (t : Bool) (n : ℕ) → pick t 1 0 + n ≡ cond t (1 + n) n
+    one-more true n = refl
+    one-more false n = omega arith
 
 -- ---- whether it names each participant once
 

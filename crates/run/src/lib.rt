@@ -55,7 +55,8 @@ fn run_sound(book: &mut [u64], draw: &[u64], matches: &mut [u64], lines: &mut [u
     if lines.len() < LINE_CELLS {
         return Err(Refusal::ShortList);
     }
-    Ok(runs::whole::run(book, draw, matches, lines))
+    let counts = runs::whole::run(book, draw, matches, lines);
+    Ok(counts)
 }
 
 pub fn run(book: &mut [u64], draw: &[u64], matches: &mut [u64], lines: &mut [u64]) -> Result<Counts, Refusal>
