@@ -1,57 +1,73 @@
 -- Laws of the code rule. Assumes nothing.
 use mathlib.Core.Path.{◌≡◌, refl, sym, ◌∙◌, ap, ap₂}
-use mathlib.Core.Bool.{Bool, true, false, ◌&&◌, ◌||◌, or-true, or-false, and-true, and-false}
+use mathlib.Core.Bool.{Bool, true, false, ◌&&◌, ◌||◌, and-true, and-false}
 use mathlib.Core.List.{List, [], ◌∷◌, ◌++◌, reverse, reverse-append}
 use Prim.Native.Nat.{ℕ, zero, suc, ◌≤◌, ◌<◌, ◌+◌, ◌-◌, ◌*◌, ◌/◌, ◌%◌, max}
 use native.Mathlib.Numerals.{add-one}
+use native.Mathlib.Nat.{mul-suc}
 use native.Mathlib.Omega.{arith}
-use native.Mathlib.Decide.{dec_le, ℕ_discrete}
+use native.Mathlib.Decide.{dec_lt, ℕ_discrete}
 use lib.Dec.{leb, ltb, eqb}
-use lib.ListN.{length, get_or, take, drop, drop_of_length-le}
-use lib.Seq.{take-suc, drop-cons}
-use borrow.Author.Tests.{leb-true, le-ltb, le-leb, lt-leb, eq-eqb, ne_eqb}
+use lib.ListN.{length, get_or, take, drop}
+use lib.Seq.{take-suc, get_or-take, drop-drop, ext_get_or, length-take-le}
+use borrow.Author.Tests.{leb-true, le-leb, lt-leb, lt-ltb, eq-eqb, ne_eqb}
+use Rattle.std.proofs.lemmas.Bool.Decides.{nat_tests}
+use Rattle.std.proofs.lemmas.Cmp.{same_from_slice_cmp}
+use Rattle.std.specs.Bool.{MatchBool}
+use Rattle.std.specs.List.{AllWithin, HoldsAt, IsAllAdjacentAnswer}
+use Rattle.std.specs.Ordering.{nat_cmp, is_lt}
+use Rattle.std.specs.declared.cmp.Ordering.{Ordering}
+use Rattle.std.specs.Cmp.Lexicographic.{slice_cmp}
+use Rattle.std.specs.Simd.{first_chunks}
+use Rattle.std.specs.Prelude.{Some}
+use Rattle.std.specs.declared.ops.RangeInclusive.{RangeInclusive}
+use Rattle.std.specs.Range.{range_inclusive_contains, range_inclusive_start, range_inclusive_end, range_inclusive_exhausted}
 use Rattle.lists.specs.Tests.{pick, same, all_below}
 use Rattle.lists.specs.Parts.{block, grid}
 use Rattle.rule.specs.Isin.{digit, capital, spread, doubled, check_digit, is_isin, before, rising, is_code, codes_right}
 use Rattle.isin.specs.declared.Sums.{Sums}
-use Rattle.isin.specs.Code.{character, of_japan, code_of, all_codes, all_rise}
+use Rattle.isin.specs.Code.{of_japan}
 use Rattle.isin.specs.Summing.{Within, sums_of, with_digit, with_capital, with_character}
-use Rattle.lists.proofs.TestLaws.{both_ways, and_left, and_right, or_left, or_right, all_none, all_more, all-stop, all-at, all_of, all-ext}
+use Rattle.lists.proofs.TestLaws.{and_left, and_right, and_no, or_right, all-stop, all_of, stop_is, row-stop, row-go}
 use Rattle.lists.proofs.TableLaws.{length-table}
-use Rattle.lists.proofs.PartLaws.{row_at, part-is}
-
--- a test from a to b, and its answers
-module _ (a b c : ℕ) where
-  pub below : c < a → false ≡ leb a c && leb c b
-  below h = rw (lt-leb a c h)
-
-  pub from-there : a ≤ c → leb c b ≡ leb a c && leb c b
-  from-there h = rw (le-leb a c h)
-
-  span : leb a c && leb c b ≡ true → (a ≤ c) × (c ≤ b)
-  span h = (leb-true a c (and_left (leb a c) (leb c b) h), leb-true c b (and_right (leb a c) (leb c b) h))
+use Rattle.lists.proofs.PartLaws.{row_at}
 
 -- digits and capitals as numbers
 module _ (c : ℕ) where
-  pub is-figure : digit c ≡ true → (48 ≤ c) × (c ≤ 57)
+  is-digit : digit c ≡ true → (48 ≤ c) × (c ≤ 57)
   unfolding digit
-  is-figure = span 48 57 c
-
-  pub no-figure : digit c ≡ false → 48 ≤ c → 57 < c
-  unfolding digit
-  no-figure e h = go (dec_le c 57)
-    where
-      go : Dec (c ≤ 57) → 57 < c
-      go (yes l) = both_ways (digit c) (rw (le-leb 48 c h, le-leb c 57 l)) e
-      go (no l) = omega arith
+  is-digit h = (leb-true 48 c (and_left (leb 48 c) (leb c 57) h), leb-true c 57 (and_right (leb 48 c) (leb c 57) h))
 
   pub a-to-z : capital c ≡ true → (65 ≤ c) × (c ≤ 90)
   unfolding capital
-  a-to-z = span 65 90 c
+  a-to-z h = (leb-true 65 c (and_left (leb 65 c) (leb c 90) h), leb-true c 90 (and_right (leb 65 c) (leb c 90) h))
 
   no_digit : capital c ≡ true → digit c ≡ false
   unfolding digit
   no_digit h = rw (lt-leb c 57 (omega (arith, a-to-z h))) (and-false (leb 48 c))
+
+  -- the check digit and the sum make a multiple of ten
+  no_check : (sum : ℕ) → digit c ≡ false → eqb c (48 + (10 - sum % 10) % 10) ≡ false
+  unfolding digit
+  no_check sum h = grind (arith, nat_tests)
+
+  check : (sum : ℕ) → digit c ≡ true → eqb ((c - 48 + sum) % 10) 0 ≡ eqb c (48 + (10 - sum % 10) % 10)
+  check sum h =
+      let l : (48 ≤ c) × (c ≤ 57) = is-digit h in
+      grind (arith, nat_tests)
+
+  -- what a range of the language tells of a character
+  module _ {r : RangeInclusive ℕ} {v : Bool} (unspent : range_inclusive_exhausted r ≡ false) (e : v ≡ range_inclusive_contains (λ x y. Some (nat_cmp x y)) r c) where
+    told : {a b : ℕ} {w : Bool} → range_inclusive_start r ≡ a → range_inclusive_end r ≡ b → v ≡ w → (leb a c && leb c b) ≡ w
+    told {a} {b} f g h = sym (e ∙ rw (unspent, f, g) (grind (arith, nat_tests))) ∙ h
+
+    pub digit_told : {w : Bool} → range_inclusive_start r ≡ 48 → range_inclusive_end r ≡ 57 → v ≡ w → digit c ≡ w
+    unfolding digit
+    digit_told = told
+
+    pub capital_told : {w : Bool} → range_inclusive_start r ≡ 65 → range_inclusive_end r ≡ 90 → v ≡ w → capital c ≡ w
+    unfolding capital
+    capital_told = told
 
 -- a character more after those of a code
 spread-more : (cs ys : List ℕ) → spread (cs ++ ys) ≡ spread cs ++ spread ys
@@ -63,16 +79,6 @@ spread-more (c ∷ cs) ys = go (digit c) (c - 48) ((c - 55) / 10) ((c - 55) % 10
     go true x y z e = rw e
     go false x y z e = rw e
 
--- what a character adds, by the code's own steps
-module _ (s : Sums) {r : Sums} (c : ℕ) where
-  with-figure : digit c ≡ true → r ≡ with_digit s (c - 48) → r ≡ with_character s c
-  unfolding with_character
-  with-figure h e = rw h e
-
-  with-letter : capital c ≡ true → r ≡ with_capital s c → r ≡ with_character s c
-  unfolding with_character
-  with-letter h e = rw (no_digit c h) e
-
 -- both digits of a capital at once
 pub at_once : (s : Sums) (c : ℕ) → capital c ≡ true
     → record { twice = s.twice + 2 * (c - 55) - (c - 55) / 10 - 9 * ((c - 55) / 5); once = s.once + (c - 55) - 8 * ((c - 55) / 10) } ≡ with_capital s c
@@ -80,20 +86,6 @@ unfolding with_capital with_digit
 at_once s c h =
     let l : (65 ≤ c) × (c ≤ 90) = a-to-z c h in
     ap₂ (λ (x y : ℕ). record { twice = x; once = y }) (omega arith) (omega arith)
-
--- the check digit and the sum make a multiple of ten
-module _ (c sum : ℕ) where
-  pub other_last : digit c ≡ false → false ≡ eqb c (48 + (10 - sum % 10) % 10)
-  other_last h = sym (ne_eqb c _ (λ e. omega (arith, no-figure c h (omega arith))))
-
-  pub makes-ten : digit c ≡ true → eqb ((sum + (c - 48)) % 10) 0 ≡ eqb c (48 + (10 - sum % 10) % 10)
-  makes-ten h = go (ℕ_discrete c (48 + (10 - sum % 10) % 10))
-    where
-      go : Dec (c ≡ 48 + (10 - sum % 10) % 10) → eqb ((sum + (c - 48)) % 10) 0 ≡ eqb c (48 + (10 - sum % 10) % 10)
-      go (yes e) = rw (eq-eqb c _ e, eq-eqb ((sum + (c - 48)) % 10) 0 (omega arith))
-      go (no n) =
-          let l : (48 ≤ c) × (c ≤ 57) = is-figure c h in
-          rw (ne_eqb c _ n, ne_eqb ((sum + (c - 48)) % 10) 0 (λ e. n (omega arith)))
 
 sums-character : (ds : List ℕ) (c : ℕ) → with_character (sums_of ds) c ≡ sums_of (reverse (spread (c ∷ [])) ++ ds)
 unfolding with_character with_capital with_digit sums_of doubled spread
@@ -116,32 +108,95 @@ sums-more c i s r l e f =
     f ∙ ap (λ (z : Sums). with_character z (get_or c i 0)) e ∙ sums-character (reverse (spread (take i c))) (get_or c i 0)
     ∙ sym (rw (add-one, take-suc c i 0, spread-more, reverse-append))
 
--- what is left of two codes from k on stands as the codes do
-module _ (xs ys : List ℕ) (k : ℕ) (w : before (drop k xs) (drop k ys) ≡ before xs ys) where
-  pub before-short : length xs ≤ k → k < length ys → true ≡ before xs ys
-  unfolding before
-  before-short h l = rw (drop_of_length-le xs h, drop-cons ys k 0 l) at w
+-- what may stand at place i: a digit from the third on, a capital in each but the last
+abbrev allowed : ℕ → ℕ → Bool
+allowed i c = (leb 2 i && digit c) || (ltb i 11 && capital c)
 
-  pub before-end : length ys ≤ k → false ≡ before xs ys
-  unfolding before
-  before-end h = sym (none (drop k xs)) ∙ (rw (drop_of_length-le ys h) at w)
+-- a code of which the characters below i were read
+pub record Read (c : List ℕ) (i : ℕ) (s : Sums) : Type 0 where
+  pub twelve : length c ≡ 12
+  pub characters : (k : ℕ) → k < i → allowed k (get_or c k 0) ≡ true
+  pub sums : s ≡ sums_below i c
+  pub small : Within s (18 * i)
+
+pub read_none : (c : List ℕ) → length c ≡ 12 → Read c 0 (record { twice = 0; once = 0 })
+read_none c e =
+    record {
+      twelve = e;
+      characters = λ k l. absurd (omega arith);
+      sums = sums_none c;
+      small = record { twice = omega arith; once = omega arith };
+    }
+
+module _ {c : List ℕ} {i : ℕ} {s : Sums} (d : Read c i s) (l : i < length c) where
+  read-more : {r : Sums} → allowed i (get_or c i 0) ≡ true → r ≡ with_character s (get_or c i 0) → Within r (max s.twice s.once + 18) → Read c (i + 1) r
+  read-more {r} p e w =
+      record {
+        twelve = d.twelve;
+        characters = λ k m. go k m (ℕ_discrete k i);
+        sums = sums-more c i s r l d.sums e;
+        small = record { twice = omega (arith, w.twice, d.small.twice, d.small.once); once = omega (arith, w.once, d.small.twice, d.small.once) };
+      }
     where
-      none : (l : List ℕ) → before l [] ≡ false
-      none [] = refl
-      none (x ∷ l) = refl
+      go : (k : ℕ) → k < i + 1 → Dec (k ≡ i) → allowed k (get_or c k 0) ≡ true
+      go k m (yes q) = ap (λ (j : ℕ). allowed j (get_or c j 0)) q ∙ p
+      go k m (no n) = d.characters k (omega arith)
 
-  module _ (hx : k < length xs) (hy : k < length ys) where
-    heads : ltb (get_or xs k 0) (get_or ys k 0) || (eqb (get_or xs k 0) (get_or ys k 0) && before (drop (k + 1) xs) (drop (k + 1) ys)) ≡ before xs ys
-    unfolding before
-    heads = rw add-one (rw (drop-cons xs k 0 hx, drop-cons ys k 0 hy) at w)
+  pub read-digit : {r : Sums} → 2 ≤ i → digit (get_or c i 0) ≡ true → r ≡ with_digit s (get_or c i 0 - 48) → Within r (max s.twice s.once + 9) → Read c (i + 1) r
+  unfolding with_character
+  read-digit m g e w = read-more (rw (le-leb 2 i m, g)) (rw g e) (record { twice = omega (arith, w.twice); once = omega (arith, w.once) })
 
-    pub before_here : (get_or xs k 0 ≡ get_or ys k 0 → ⊥) → ltb (get_or xs k 0) (get_or ys k 0) ≡ before xs ys
-    before_here n = rw (ne_eqb _ _ n, or-false) at heads
+  pub read-capital : {r : Sums} → i < 11 → capital (get_or c i 0) ≡ true → r ≡ with_capital s (get_or c i 0) → Within r (max s.twice s.once + 18) → Read c (i + 1) r
+  unfolding with_character
+  read-capital m g e w = read-more (or_right (leb 2 i && digit (get_or c i 0)) _ (rw (lt-ltb i 11 m, g))) (rw (no_digit (get_or c i 0) g) e) w
 
-    pub before_same : get_or xs k 0 ≡ get_or ys k 0 → before (drop (k + 1) xs) (drop (k + 1) ys) ≡ before xs ys
-    before_same e = rw (le-ltb (get_or xs k 0) (get_or ys k 0) (omega arith), eq-eqb _ _ e) at heads
+  -- the character may not stand there
+  pub read-stop : (2 ≤ i → digit (get_or c i 0) ≡ false) → (i < 11 → capital (get_or c i 0) ≡ false) → false ≡ is_isin c
+  unfolding is_isin check_digit
+  read-stop = stopped i (omega (arith, d.twelve))
+    where
+      stopped : (k : ℕ) → k < 12 → (2 ≤ k → digit (get_or c k 0) ≡ false) → (k < 11 → capital (get_or c k 0) ≡ false) → false ≡ is_isin c
+      stopped zero l m n = rw (n (omega arith), and_no)
+      stopped (suc zero) l m n = rw (n (omega arith), and_no)
+      stopped (suc (suc k)) l m n = go (dec_lt k 9)
+        where
+          go : Dec (k < 9) → false ≡ is_isin c
+          go (yes o) =
+              let e : 2 + k ≡ suc (suc k) = omega arith in
+              let f = all-stop (λ j. digit (get_or c (2 + j) 0) || capital (get_or c (2 + j) 0)) 9 k o
+              (ap (λ j. digit (get_or c j 0) || capital (get_or c j 0)) e ∙ rw (m (omega arith)) (n (omega arith))) in
+              rw (f, and_no)
+          go (no o) =
+              let e : 11 ≡ suc (suc k) = omega arith in
+              let f : digit (get_or c 11 0) ≡ false = ap (λ j. digit (get_or c j 0)) e ∙ m (omega arith) in
+              rw (no_check (get_or c 11 0) (doubled true (reverse (spread (take 11 c)))) f, and_no)
 
-pub ruleset order = (before-short, before-end, before_here, before_same)
+-- the loop is through
+pub read_done : {c : List ℕ} {i : ℕ} {s : Sums} → Read c i s → length c ≤ i → i ≤ length c → eqb (s.once % 10) 0 ≡ is_isin c
+unfolding is_isin check_digit with_character with_digit sums_of
+read_done {c} {i} {s} d l m =
+    let e : i ≡ 12 = omega (arith, d.twelve) in
+    let last = alone (digit (get_or c 11 0)) (d.characters 11 (omega arith)) in
+    let more = sums-more c 11 (sums_below 11 c) (with_character (sums_below 11 c) (get_or c 11 0)) (omega (arith, d.twelve)) refl refl in
+    ap (λ (z : Sums). eqb (z.once % 10) 0) (d.sums ∙ ap (λ (n : ℕ). sums_below n c) e ∙ sym (rw last at more))
+    ∙ check (get_or c 11 0) (doubled true (reverse (spread (take 11 c)))) last
+    ∙ rw (eq-eqb (length c) 12 d.twelve, d.characters 0 (omega arith), d.characters 1 (omega arith), nine e)
+  where
+    alone : (b : Bool) → (b || false) ≡ true → b ≡ true
+    alone true h = h
+    alone false h = h
+
+    nine : i ≡ 12 → all_below 9 (λ k. digit (get_or c (2 + k) 0) || capital (get_or c (2 + k) 0)) ≡ true
+    nine e = all_of _ 9 (λ k o. rw (le-leb 2 (2 + k) (omega arith), lt-ltb (2 + k) 11 (omega arith)) at (d.characters (2 + k) (omega arith)))
+
+pub isin-length : (c : List ℕ) → (length c ≡ 12 → ⊥) → false ≡ is_isin c
+unfolding is_isin
+isin-length c n = rw (ne_eqb (length c) 12 n)
+
+-- the list order of the library
+pub before-is : (a b : List ℕ) (o : Ordering) → o ≡ slice_cmp nat_cmp a b → is_lt o ≡ before a b
+unfolding before
+before-is = same_from_slice_cmp nat_cmp is_lt before refl (λ _ _. refl) (λ _ _. refl) (λ x y xs ys o h. grind (arith, nat_tests))
 
 -- "the first two bytes of a code are JP"
 module _ (c : List ℕ) where
@@ -163,104 +218,54 @@ module _ (c : List ℕ) where
       go (x ∷ []) h = absurd (omega arith)
       go (x ∷ y ∷ l) h = ap (λ (b : Bool). eqb x 74 && b) (and-true (eqb y 80))
 
-  pub japan-first : (j : ℕ) → 2 ≤ length c → j ≡ 74 → (get_or c 0 0 ≡ j → ⊥) → false ≡ of_japan c
-  japan-first j h e n = sym (two h ∙ rw (← e, ne_eqb (get_or c 0 0) j n))
+  module _ {j : ℕ} {v : Bool} (l : 2 ≤ length c) (q : v ≡ eqb (get_or c 0 0) j) (e : j ≡ 74) where
+    pub japan-first : v ≡ false → v ≡ of_japan c
+    japan-first f = f ∙ row-stop _ _ (sym (rw e at q) ∙ f) ∙ sym (two l)
 
-  pub japan-second : (j p : ℕ) → 2 ≤ length c → j ≡ 74 → p ≡ 80 → get_or c 0 0 ≡ j → eqb (get_or c 1 0) p ≡ of_japan c
-  japan-second j p h e f q = sym (two h ∙ rw (← e, ← f, eq-eqb (get_or c 0 0) j q))
-
--- the tests of a code, in the order of its rule
-shifted : (t : ℕ → Bool) (n i : ℕ) → t 0 ≡ true → t 1 ≡ true → i < 2 + n → t i ≡ false → all_below n (λ k. t (2 + k)) ≡ false
-shifted t n zero p q l f = absurd (let z : ◌≡◌ {A = ℕ} 0 1 = cc in omega arith)
-shifted t n (suc zero) p q l f = absurd (let z : ◌≡◌ {A = ℕ} 0 1 = cc in omega arith)
-shifted t n (suc (suc i)) p q l f =
-    let e : 2 + i ≡ suc (suc i) = omega arith in
-    all-stop (λ k. t (2 + k)) n i (omega arith) (ap t e ∙ f)
-
-module _ (c : List ℕ) where
-  pub isin-length : (length c ≡ 12 → ⊥) → false ≡ is_isin c
-  unfolding is_isin
-  isin-length n = rw (ne_eqb (length c) 12 n)
-
-  pub isin-first : length c ≡ 12 → capital (get_or c 0 0) ≡ false → false ≡ is_isin c
-  unfolding is_isin
-  isin-first e f = rw (eq-eqb (length c) 12 e, f)
-
-  pub isin-second : length c ≡ 12 → capital (get_or c 0 0) ≡ true → capital (get_or c 1 0) ≡ false → false ≡ is_isin c
-  unfolding is_isin
-  isin-second e p f = rw (eq-eqb (length c) 12 e, p, f)
-
--- a code of which the characters below i were read
-pub record Read (c : List ℕ) (i : ℕ) (s : Sums) : Type 0 where
-  pub twelve : length c ≡ 12
-  pub first : capital (get_or c 0 0) ≡ true
-  pub second : capital (get_or c 1 0) ≡ true
-  pub here : i ≤ 11
-  pub characters : all_below i (λ k. character (get_or c k 0)) ≡ true
-  pub sums : s ≡ sums_below i c
-  pub small : Within s (18 * i)
-
-pub read_none : (c : List ℕ) → length c ≡ 12 → capital (get_or c 0 0) ≡ true → capital (get_or c 1 0) ≡ true → Read c 0 (record { twice = 0; once = 0 })
-read_none c e p q =
-    record {
-      twelve = e;
-      first = p;
-      second = q;
-      here = omega arith;
-      characters = all_none _;
-      sums = sums_none c;
-      small = record { twice = omega arith; once = omega arith };
-    }
-
-module _ {c : List ℕ} {i : ℕ} {s : Sums} (d : Read c i s) where
-  read_more : {r : Sums} → i < 11 → character (get_or c i 0) ≡ true → r ≡ with_character s (get_or c i 0) → Within r (max s.twice s.once + 18) → Read c (i + 1) r
-  read_more {r} l p e w =
-      record {
-        twelve = d.twelve;
-        first = d.first;
-        second = d.second;
-        here = omega arith;
-        characters = all_more (λ k. character (get_or c k 0)) i d.characters p;
-        sums = sums-more c i s r (omega arith) d.sums e;
-        small = record { twice = omega arith; once = omega arith };
-      }
-
-  pub read-figure : {r : Sums} → i < 11 → digit (get_or c i 0) ≡ true → r ≡ with_digit s (get_or c i 0 - 48) → Within r (max s.twice s.once + 9) → Read c (i + 1) r
-  read-figure l p e w =
-      read_more l (or_left _ _ p) (with-figure s (get_or c i 0) p e) (record { twice = omega (arith, w.twice); once = omega (arith, w.once) })
-
-  pub read-letter : {r : Sums} → i < 11 → capital (get_or c i 0) ≡ true → r ≡ with_capital s (get_or c i 0) → Within r (max s.twice s.once + 18) → Read c (i + 1) r
-  read-letter l p e w = read_more l (or_right (digit (get_or c i 0)) _ p) (with-letter s (get_or c i 0) p e) w
-
-  pub read-stop : i < 11 → digit (get_or c i 0) ≡ false → capital (get_or c i 0) ≡ false → false ≡ is_isin c
-  unfolding is_isin
-  read-stop l g h =
-      let p = d.first in
-      let q = d.second in
-      let f : character (get_or c i 0) ≡ false = rw g h in
-      let n = shifted (λ k. character (get_or c k 0)) 9 i (rw p (or-true (digit (get_or c 0 0)))) (rw q (or-true (digit (get_or c 1 0)))) l f in
-      rw (eq-eqb (length c) 12 d.twelve, p, q, n)
-
-  pub read_done : 11 ≤ i → eqb (get_or c 11 0) (48 + (10 - s.twice % 10) % 10) ≡ is_isin c
-  unfolding is_isin check_digit sums_of
-  read_done l =
-      let e : i ≡ 11 = omega arith in
-      let m = all_of (λ k. character (get_or c (2 + k) 0)) 9 (λ k o. all-at (λ k. character (get_or c k 0)) i d.characters (2 + k) (omega arith)) in
-      ap (λ (z : Sums). eqb (get_or c 11 0) (48 + (10 - z.twice % 10) % 10)) (d.sums ∙ ap (λ (n : ℕ). sums_below n c) e)
-      ∙ rw (eq-eqb (length c) 12 d.twelve, d.first, d.second, m)
+    pub japan-second : {p : ℕ} → v ≡ true → p ≡ 80 → eqb (get_or c 1 0) p ≡ of_japan c
+    japan-second {p} f k = row-go _ _ _ (sym (rw e at q) ∙ f) (ap (eqb (get_or c 1 0)) k) ∙ sym (two l)
 
 -- the codes of the day stand one after the other
-pub codes-are : (cells : List ℕ) (n : ℕ) → codes_right (grid cells 0 12 n 12) ≡ all_codes cells n && all_rise cells n
-unfolding codes_right rising
-codes-are cells n =
-    let cs : List (List ℕ) = grid cells 0 12 n 12 in
-    let e : length cs ≡ n = length-table n (λ p. block cells (0 + 12 * p) 12) in
-    ap₂ ◌&&◌
-    (ap (λ (m : ℕ). all_below m (λ i. is_code (get_or cs i []))) e
-    ∙ all-ext _ (λ p. is_code (code_of cells p)) n (λ p l. ap is_code (row_at cells n 12 p l)))
-    (ap (λ (m : ℕ). all_below (m - 1) (λ i. before (get_or cs i []) (get_or cs (i + 1) []))) e
-    ∙ all-ext _ (λ p. before (code_of cells p) (code_of cells (p + 1))) (n - 1)
-    (λ p l. ap₂ before (row_at cells n 12 p (omega arith)) (row_at cells n 12 (p + 1) (omega arith))))
+chunk : (n k : ℕ) (xs : List ℕ) (p : ℕ) → p < k → get_or (first_chunks n k xs) p [] ≡ take n (drop (n * p) xs)
+chunk n zero xs p l = absurd (omega arith)
+chunk n (suc k) xs zero l = let e : n * 0 ≡ 0 = omega arith in rw e
+chunk n (suc k) xs (suc p) l =
+    let e : n + n * p ≡ n * suc p = omega (arith, mul-suc n p) in
+    chunk n k (drop n xs) p (omega arith) ∙ ap (take n) (drop-drop (n * p) n xs ∙ ap (λ (o : ℕ). drop o xs) e)
 
-pub next-code : (cells : List ℕ) (p : ℕ) → take (12 * p + 12 + 12 - (12 * p + 12)) (drop (12 * p + 12) cells) ≡ code_of cells (p + 1)
-next-code cells p = let e : 12 * p + 12 ≡ 12 * (p + 1) = omega arith in part-is cells (12 * p + 12) 12 ∙ ap (λ (o : ℕ). block cells o 12) e
+length-chunks : (n k : ℕ) (xs : List ℕ) → length (first_chunks n k xs) ≡ k
+length-chunks n zero xs = refl
+length-chunks n (suc k) xs = ap (λ (j : ℕ). suc j) (length-chunks n k (drop n xs))
+
+chunks-are : (cells : List ℕ) (n k : ℕ) → n ≤ k → take n (first_chunks 12 k cells) ≡ grid cells 0 12 n 12
+chunks-are cells n k l =
+    let e = length-table n (λ p. block cells (0 + 12 * p) 12) in
+    let m : length (take n (first_chunks 12 k cells)) ≡ n = length-take-le n (first_chunks 12 k cells) (omega (arith, length-chunks 12 k cells)) in
+    ext_get_or [] (take n (first_chunks 12 k cells)) (grid cells 0 12 n 12) (m ∙ sym e)
+    (λ p h. let o : p < n = omega arith in get_or-take n (first_chunks 12 k cells) p [] o ∙ chunk 12 k cells p (omega arith) ∙ sym (row_at cells n 12 p o))
+
+pub codes-are : (cells : List ℕ) (n : ℕ) {cs : List (List ℕ)} → 12 * n ≤ length cells → cs ≡ first_chunks 12 (length cells / 12) cells
+    → codes_right (take n cs) ≡ codes_right (grid cells 0 12 n 12)
+codes-are cells n h e = ap codes_right (ap (take n) e ∙ chunks-are cells n (length cells / 12) (omega arith))
+
+-- codes that were tested by the library's methods
+module _ (xs : List (List ℕ)) where
+  each-is : (r : Bool) → MatchBool r (AllWithin (λ x. is_code x ≡ true) xs 0 (length xs)) ((k : ℕ) × (k < length xs) × HoldsAt (λ x. is_code x ≡ false) xs k)
+      → r ≡ all_below (length xs) (λ i. is_code (get_or xs i []))
+  each-is true h = sym (all_of (λ i. is_code (get_or xs i [])) (length xs) (λ k l. h k [] (omega arith) l))
+  each-is false h = stop_is (λ i. is_code (get_or xs i [])) (length xs) h.0 h.1 (h.2 [])
+
+  rise-is : (r : Bool) → IsAllAdjacentAnswer (λ x y b. b ≡ before x y) xs r → r ≡ rising xs
+  unfolding rising
+  rise-is true h = sym (all_of (λ i. before (get_or xs i []) (get_or xs (i + 1) [])) (length xs - 1) (λ k l. sym (h k [] (omega arith))))
+  rise-is false h = stop_is (λ i. before (get_or xs i []) (get_or xs (i + 1) [])) (length xs - 1) h.0 (omega (arith, h.1)) (sym (h.2 []))
+
+  pub codes-stop : (r : Bool) → MatchBool r (AllWithin (λ x. is_code x ≡ true) xs 0 (length xs)) ((k : ℕ) × (k < length xs) × HoldsAt (λ x. is_code x ≡ false) xs k)
+      → r ≡ false → r ≡ codes_right xs
+  unfolding codes_right
+  codes-stop r h f = f ∙ row-stop _ _ (sym (each-is r h) ∙ f)
+
+  pub codes-go : (r q : Bool) → MatchBool r (AllWithin (λ x. is_code x ≡ true) xs 0 (length xs)) ((k : ℕ) × (k < length xs) × HoldsAt (λ x. is_code x ≡ false) xs k)
+      → r ≡ true → IsAllAdjacentAnswer (λ x y b. b ≡ before x y) xs q → q ≡ codes_right xs
+  unfolding codes_right
+  codes-go r q h e k = row-go _ _ _ (sym (each-is r h) ∙ e) (rise-is q k)

@@ -1,55 +1,39 @@
-use Rattle.std.proofs.Common.{◌∙◌, arith, rules}
-use Rattle.lists.proofs.TestLaws.{flag-no, flag-yes, said-no, said-yes}
-use Rattle.isin.proofs.CodeLaws.{is-figure, isin-length, isin-first, isin-second, read_none, read-figure, read-letter, read-stop, read_done}
+use Rattle.std.proofs.Common.{◌≡◌, ◌≤◌, ◌<◌, get_or, false, arith, rules}
+use Rattle.rule.specs.Isin.{digit, capital}
+use Rattle.isin.proofs.CodeLaws.{isin-length, digit_told, capital_told, read_none, read-digit, read-capital, read-stop, read_done}
 use Rattle.isin.proofs.is_isin.Goals as goal
-use Rattle.isin.proofs.is_isin.Goals.{then-is_digit, else-is_digit+else-not-is_capital-3}
+use Rattle.isin.proofs.is_isin.Goals.{else-i-ge2-via-then-i-ge2+else-contains, else-i-ge2-via-else-i-ge2}
+use Rattle.isin.proofs.is_isin.Goals.{else-i-lt11-via-then-i-lt11+else-contains-2, else-i-lt11-via-else-i-lt11}
+use Rattle.isin.proofs.is_isin.Goals.{then-i-ge2+then-contains, else-i-ge2+then-i-lt11+then-contains-2}
 
 pub returns-then-code-ne12 : goal.returns-then-code-ne12
 returns-then-code-ne12 c = isin-length _ c.if-code-ne12.true
 
-pub returns-then-not-is_capital : goal.returns-then-not-is_capital
-returns-then-not-is_capital c = search (isin-first, flag-no, rules)
-
-pub returns-then-not-is_capital-2 : goal.returns-then-not-is_capital-2
-returns-then-not-is_capital-2 c = search (isin-second, flag-no, flag-yes, rules)
-
-pub with_capital-first-requires : goal.with_capital-first-requires
-with_capital-first-requires c = (said-yes _ _ c.is_capital.ensures c.if-not-is_capital.false, search rules)
-
-pub with_capital-sums-requires : goal.with_capital-sums-requires
-with_capital-sums-requires c = (said-yes _ _ c.is_capital-2.ensures c.if-not-is_capital-2.false, search rules)
-
 pub loop-i-init : goal.loop-i-init
-loop-i-init c =
-    let first = said-yes _ _ c.is_capital.ensures c.if-not-is_capital.false in
-    let second = said-yes _ _ c.is_capital-2.ensures c.if-not-is_capital-2.false in
-    let one = read-letter (read_none _ c.if-code-ne12.false first second) (omega arith) first c.with_capital-first.ensures.0 c.with_capital-first.ensures.1 in
-    read-letter one (omega arith) second c.with_capital-sums.ensures.0 c.with_capital-sums.ensures.1
+loop-i-init c = read_none _ c.if-code-ne12.false
 
-pub overflow_sub-c : goal.overflow_sub-c
-overflow_sub-c c = omega (arith, is-figure _ (said-yes _ _ c.is_digit.ensures c.if-is_digit.true))
+pub with_capital-requires : goal.with_capital-requires
+with_capital-requires c = (search (capital_told, rules), search rules)
 
-pub with_digit-sums-requires : goal.with_digit-sums-requires
-with_digit-sums-requires c = (omega (arith, is-figure _ (said-yes _ _ c.is_digit.ensures c.if-is_digit.true)), search rules)
-
-pub returns-then-not-is_capital-3 : goal.returns-then-not-is_capital-3
-returns-then-not-is_capital-3 c =
-    read-stop c.loop-i.invariant c.loop-i-test.true (said-no _ _ c.is_digit.ensures c.if-is_digit.false)
-    (said-no _ _ c.is_capital-else-is_digit.ensures c.if-not-is_capital-3.true)
-
-pub with_capital-sums-requires-else-is_digit : goal.with_capital-sums-requires-else-is_digit
-with_capital-sums-requires-else-is_digit c = (said-yes _ _ c.is_capital-else-is_digit.ensures c.if-not-is_capital-3.false, search rules)
+pub returns-else-i-lt11 : goal.returns-else-i-lt11
+returns-else-i-lt11 c =
+    let x = get_or c.args.code.now c.loop-i.i 0 in
+    let n = elim c.else-i-ge2.branch as (λ _. 2 ≤ c.loop-i.i → digit x ≡ false) [
+      | else-i-ge2-via-then-i-ge2+else-contains w ↦ λ h. search (digit_told, rules)
+      | else-i-ge2-via-else-i-ge2 w ↦ λ h. absurd (omega arith)
+    ] in
+    let m = elim c.else-i-lt11.branch as (λ _. c.loop-i.i < 11 → capital x ≡ false) [
+      | else-i-lt11-via-then-i-lt11+else-contains-2 w ↦ λ h. search (capital_told, rules)
+      | else-i-lt11-via-else-i-lt11 w ↦ λ h. absurd (omega arith)
+    ] in
+    read-stop c.loop-i.invariant c.loop-i-test.true n m
 
 pub loop-i-preserved : goal.loop-i-preserved
 loop-i-preserved c =
-    let d = c.loop-i.invariant in
-    let l = c.loop-i-test.true in
-    elim c.if-is_digit.branch [
-      | then-is_digit w ↦ rw w.sums-is (read-figure d l (said-yes _ _ c.is_digit.ensures w.if-is_digit.true) w.with_digit-sums.ensures.0 w.with_digit-sums.ensures.1)
-      | else-is_digit+else-not-is_capital-3 w ↦
-          rw w.sums-is (read-letter d l (said-yes _ _ w.is_capital-else-is_digit.ensures w.if-not-is_capital-3.false)
-          w.with_capital-sums-else-is_digit.ensures.0 w.with_capital-sums-else-is_digit.ensures.1)
+    elim c.if-i-ge2.branch [
+      | then-i-ge2+then-contains w ↦ rw w.sums-is (search (read-digit, digit_told, rules))
+      | else-i-ge2+then-i-lt11+then-contains-2 w ↦ rw w.sums-is (search (read-capital, capital_told, rules))
     ]
 
 pub returns : goal.returns
-returns c = c.is_check_digit.ensures ∙ read_done c.loop-i.invariant c.loop-i-test.false
+returns c = read_done c.loop-i.invariant c.loop-i-test.false c.loop-i.auto.i-end

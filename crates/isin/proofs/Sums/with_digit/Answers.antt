@@ -1,7 +1,7 @@
--- `isin::with_digit` meets its contract. The digits of the double are what `crossed` ensures. Assumes nothing.
+-- `isin::Sums::with_digit` meets its contract. The digits of the double are what `crossed` ensures. Assumes nothing.
 use Rattle.std.proofs.Common.{rules}
 use Rattle.isin.specs.Summing.{with_digit}
-use Rattle.isin.proofs.with_digit.Goals as goal
+use Rattle.isin.proofs.Sums.with_digit.Goals as goal
 
 pub returns : goal.returns
 unfolding with_digit

@@ -1,7 +1,7 @@
--- `isin::with_capital` meets its contract. Assumes nothing.
+-- `isin::Sums::with_capital` meets its contract. Assumes nothing.
 use Rattle.std.proofs.Common.{arith}
 use Rattle.isin.proofs.CodeLaws.{a-to-z, at_once}
-use Rattle.isin.proofs.with_capital.Goals as goal
+use Rattle.isin.proofs.Sums.with_capital.Goals as goal
 
 pub overflow_sub-value : goal.overflow_sub-value
 overflow_sub-value c = omega (arith, a-to-z _ c.requires.0)
