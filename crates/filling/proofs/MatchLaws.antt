@@ -9,6 +9,7 @@ use mathlib.Core.List.{List}
 use lib.ListN.{length, get_or}
 use lib.Dec.{leb, eqb}
 use borrow.Author.Tests.{le-leb, lt-leb}
+use Rattle.lists.proofs.TableLaws.{length-table}
 use Rattle.lists.proofs.TestLaws.{pick_yes, pick_no, pick-elim}
 use Rattle.rule.specs.Value.{Terms, no_terms, value, fewest}
 use Rattle.rule.specs.Allocable.{unmarked, allocable}
@@ -31,6 +32,9 @@ use Rattle.filling.proofs.WalkLaws.{priced}
 pub fill-nothing : {issues amount : ℕ} {lots : List ℕ} → Asked issues amount lots → amount ≡ 0 → (preferential : Bool) (ts : List Terms) (usable order : List ℕ)
     → issues ≡ length usable → lots ≡ (fill preferential ts usable order amount).lots
 fill-nothing a z preferential ts usable order e = rw (z, fill_none preferential ts usable order, ← e) a.empty
+
+pub row-places : {issues amount : ℕ} {lots : List ℕ} → Asked issues amount lots → length lots ≡ issues
+row-places {issues} a = ap length a.empty ∙ length-table {A = ℕ} issues (λ i. 0)
 
 -- ---- the amount is carried in part, or whole
 

@@ -1,13 +1,12 @@
 -- The loops of filling: what the code holds is what the match has, at every turn. Assumes nothing.
-use mathlib.Core.Path.{◌≡◌, refl, sym, ap, ◌∙◌}
-use Prim.Native.Nat.{ℕ, zero, suc, ◌+◌, ◌-◌, ◌≤◌, ◌<◌}
+use mathlib.Core.Path.{◌≡◌, refl, sym, ap, subst, ◌∙◌}
+use Prim.Native.Nat.{ℕ, zero, suc, ◌+◌, ◌≤◌, ◌<◌}
 use native.Mathlib.Numerals.{add-one}
 use native.Mathlib.Omega.{arith}
 use mathlib.Core.Logic.{◌≢◌}
 use mathlib.Core.List.{List, [], ◌∷◌}
 use lib.ListN.{length, get_or, take, set}
 use lib.Seq.{get_or-take, length-take-le, take_all}
-use Rattle.lists.specs.Tables.{zeros}
 use Rattle.lists.specs.Folds.{foldl, Every}
 use Rattle.lists.proofs.FoldLaws.{foldl-take, every-index}
 use Rattle.rule.specs.Value.{Terms, no_terms, value}
@@ -77,20 +76,20 @@ module _ (ts : List Terms) (usable order : List ℕ) (amount : ℕ) where
 
 -- ---- the invariants
 
+-- in the one walk of a preferential match
+abbrev pub walked : List Terms → List ℕ → List ℕ → ℕ → ℕ → Taken
+walked ts usable order amount k = foldl (take_up_to ts amount (λ i. get_or usable i 0)) (nothing (length usable)) (take k order)
+
 module _ (terms usable order : List ℕ) (amount : ℕ) where
   -- at the head of the loop over the passes, and of that over the issues
-  abbrev pub AtPass : ℕ → List ℕ → ℕ → Type 0
-  AtPass p lots reached = Holds (terms_in (length usable) terms) amount (begun-at (terms_in (length usable) terms) usable order amount p) lots reached
+  pub record AtPass (p : ℕ) (lots : List ℕ) (reached : ℕ) : Type 0 where
+    pub holds : Holds (terms_in (length usable) terms) amount (begun-at (terms_in (length usable) terms) usable order amount p) lots reached
 
-  abbrev pub InPass : Pass → ℕ → List ℕ → ℕ → Type 0
-  InPass pass k lots reached = Holds (terms_in (length usable) terms) amount (after (terms_in (length usable) terms) usable order amount pass k) lots reached
+  pub record InPass (pass : Pass) (k : ℕ) (lots : List ℕ) (reached : ℕ) : Type 0 where
+    pub holds : Holds (terms_in (length usable) terms) amount (after (terms_in (length usable) terms) usable order amount pass k) lots reached
 
-  -- in the one walk of a preferential match
-  abbrev pub walked : ℕ → Taken
-  walked k = foldl (take_up_to (terms_in (length usable) terms) amount (λ i. get_or usable i 0)) (nothing (length usable)) (take k order)
-
-  abbrev pub InWalk : ℕ → List ℕ → ℕ → Type 0
-  InWalk k lots reached = Holds (terms_in (length usable) terms) amount (walked k) lots reached
+  pub record InWalk (k : ℕ) (lots : List ℕ) (reached : ℕ) : Type 0 where
+    pub holds : Holds (terms_in (length usable) terms) amount (walked (terms_in (length usable) terms) usable order amount k) lots reached
 
 -- ---- the walks of a match
 
@@ -108,11 +107,18 @@ module _ {terms rates notified usable order : List ℕ} {all : ℕ} (d : Supplie
   named = every-index (λ i. i < length ts) 0 order (λ k b. omega (arith, d.named.inside k b, sized))
 
   -- nothing is held, and it is worth nothing
-  pub begin : {amount : ℕ} {lots : List ℕ} → 0 < amount → Asked (length usable) amount lots → Holds ts amount (nothing (length usable)) lots 0
-  begin {amount} some a = record {
+  nothing-held : {amount : ℕ} {lots : List ℕ} → 0 < amount → Asked (length usable) amount lots → Holds ts amount (nothing (length usable)) lots 0
+  nothing-held {amount} some a = record {
     below = some;
     held = record { cells = a.empty; sum = sym (nothing-worth ts priced usable order amount (sym sized) named) };
   }
+
+  module _ {amount : ℕ} {lots : List ℕ} (some : 0 < amount) (a : Asked (length usable) amount lots) where
+    pub begin : AtPass terms usable order amount 0 lots 0
+    begin = record { holds = nothing-held some a }
+
+    pub walk-begin : InWalk terms usable order amount 0 lots 0
+    walk-begin = record { holds = nothing-held some a }
 
   -- ---- one turn
 
@@ -151,18 +157,24 @@ module _ {terms rates notified usable order : List ℕ} {all : ℕ} (d : Supplie
   -- ---- a drawn match
 
   module _ {amount : ℕ} where
-    pub enter : {p : ℕ} {pass d : Pass} {lots : List ℕ} {reached : ℕ} → p < 3 → pass ≡ get_or passes p d → AtPass terms usable order amount p lots reached
-        → InPass terms usable order amount pass 0 lots reached
-    enter {p} {pass} {d} h e a = rw (e, ← begun-is ts usable order amount p d h) a
+    pub enter : {p : ℕ} {lots : List ℕ} {reached : ℕ} → p < 3 → AtPass terms usable order amount p lots reached
+        → InPass terms usable order amount (get_or passes p Units) 0 lots reached
+    enter {p} {lots} {reached} h a =
+        record { holds = subst (λ (s : Taken). Holds ts amount s lots reached) (begun-is ts usable order amount p Units h) a.holds }
 
-    pub leave : {p k : ℕ} {pass d : Pass} {lots : List ℕ} {reached : ℕ} → p < 3 → pass ≡ get_or passes p d → length order ≤ k
-        → InPass terms usable order amount pass k lots reached → AtPass terms usable order amount (p + 1) lots reached
-    leave {p} {k} {pass} {d} h e l a =
-        rw (add-one p, ← over-is ts usable order amount p d h, ← e, ← whole-pass ts usable order amount pass)
-        (rw (take_all k order l) at a)
+    pub leave : {p k : ℕ} {lots : List ℕ} {reached : ℕ} → p < 3 → length order ≤ k
+        → InPass terms usable order amount (get_or passes p Units) k lots reached → AtPass terms usable order amount (p + 1) lots reached
+    leave {p} {k} {lots} {reached} h l a =
+        let pass : Pass = get_or passes p Units in
+        let e : after ts usable order amount pass k ≡ begun-at ts usable order amount (p + 1) =
+        ap (foldl (step ts usable order amount pass) (begun ts usable order amount pass)) (take_all k order l)
+        ∙ whole-pass ts usable order amount pass
+        ∙ over-is ts usable order amount p Units h
+        ∙ ap (begun-at ts usable order amount) (sym (add-one p)) in
+        record { holds = subst (λ (s : Taken). Holds ts amount s lots reached) e a.holds }
 
     pub done : {p : ℕ} {lots : List ℕ} {reached : ℕ} → 3 ≤ p → AtPass terms usable order amount p lots reached → lots ≡ (fill_drawn ts usable order amount).lots
-    done {p} h a = a.held.cells ∙ ap (λ (s : Taken). s.lots) (all-over ts usable order amount p h)
+    done {p} h a = a.holds.held.cells ∙ ap (λ (s : Taken). s.lots) (all-over ts usable order amount p h)
 
     module _ {pass : Pass} {k : ℕ} {lots : List ℕ} {reached : ℕ} (a : InPass terms usable order amount pass k lots reached) (at : k < length order) where
       stands : Stands ts usable order amount pass (after ts usable order amount pass k)
@@ -175,17 +187,17 @@ module _ {terms rates notified usable order : List ℕ} {all : ℕ} (d : Supplie
           rw (get_or-take k order j 0 l) (λ e. absurd (omega (arith, d.named.once k j at (omega arith) e))))
 
       pub drawn-ready : amount ≤ 10_000_000_000_000 → Ready pass rates lots usable (get_or order k 0) reached amount
-      drawn-ready most = turn-ready stands a.held (d.named.inside k at) a.below most
+      drawn-ready most = turn-ready stands a.holds.held (d.named.inside k at) a.holds.below most
           (fresh-at ts priced usable order amount (sym sized) named pass k (get_or order k 0) not-met)
 
       module _ {lots' : List ℕ} {r : ℕ} (t : (u : Terms) → Rated u (get_or rates (get_or order k 0) 0) → RowTurned pass u lots usable (get_or order k 0) reached amount lots' r) where
         one_more : Held ts (after ts usable order amount pass (k + 1)) lots' r
         one_more =
             rw (foldl-take (step ts usable order amount pass) order k 0 (begun ts usable order amount pass) at)
-            (onward stands a.held (d.named.inside k at) (t (get_or ts (get_or order k 0) no_terms) (d.rated.each (get_or order k 0) (omega (arith, d.named.inside k at, sized)))))
+            (onward stands a.holds.held (d.named.inside k at) (t (get_or ts (get_or order k 0) no_terms) (d.rated.each (get_or order k 0) (omega (arith, d.named.inside k at, sized)))))
 
         pub on : r < amount → InPass terms usable order amount pass (k + 1) lots' r
-        on l = record { below = l; held = one_more }
+        on l = record { holds = record { below = l; held = one_more } }
 
         pub out : amount ≤ r → lots' ≡ (fill_drawn ts usable order amount).lots
         out l = one_more.cells ∙ ap (λ (s : Taken). s.lots) (sym (left ts priced usable order amount (sym sized) named pass (k + 1) (omega (arith, one_more.sum))))
@@ -195,23 +207,23 @@ module _ {terms rates notified usable order : List ℕ} {all : ℕ} (d : Supplie
     pub walk-done : {k : ℕ} {lots : List ℕ} {reached : ℕ} → length order ≤ k → InWalk terms usable order amount k lots reached
         → lots ≡ (fill_preferential ts usable order amount).lots
     unfolding fill_preferential walk
-    walk-done {k} h a = rw (take_all k order h) at a.held.cells
+    walk-done {k} h a = rw (take_all k order h) at a.holds.held.cells
 
     module _ {k : ℕ} {lots : List ℕ} {reached : ℕ} (a : InWalk terms usable order amount k lots reached) (at : k < length order) where
-      walk-stands : Stands ts usable order amount Rest (walked terms usable order amount k)
+      walk-stands : Stands ts usable order amount Rest (walked ts usable order amount k)
       walk-stands = walked-stands ts priced usable order amount (sym sized) named k
 
       pub walk-ready : amount ≤ 10_000_000_000_000 → Ready Rest rates lots usable (get_or order k 0) reached amount
-      walk-ready most = turn-ready walk-stands a.held (d.named.inside k at) a.below most tt
+      walk-ready most = turn-ready walk-stands a.holds.held (d.named.inside k at) a.holds.below most tt
 
       module _ {lots' : List ℕ} {r : ℕ} (t : (u : Terms) → Rated u (get_or rates (get_or order k 0) 0) → RowTurned Rest u lots usable (get_or order k 0) reached amount lots' r) where
-        one_further : Held ts (walked terms usable order amount (k + 1)) lots' r
+        one_further : Held ts (walked ts usable order amount (k + 1)) lots' r
         one_further =
             rw (foldl-take (take_up_to ts amount (λ i. get_or usable i 0)) order k 0 (nothing (length usable)) at)
-            (onward walk-stands a.held (d.named.inside k at) (t (get_or ts (get_or order k 0) no_terms) (d.rated.each (get_or order k 0) (omega (arith, d.named.inside k at, sized)))))
+            (onward walk-stands a.holds.held (d.named.inside k at) (t (get_or ts (get_or order k 0) no_terms) (d.rated.each (get_or order k 0) (omega (arith, d.named.inside k at, sized)))))
 
         pub walk-on : r < amount → InWalk terms usable order amount (k + 1) lots' r
-        walk-on l = record { below = l; held = one_further }
+        walk-on l = record { holds = record { below = l; held = one_further } }
 
         pub walk-out : amount ≤ r → lots' ≡ (fill_preferential ts usable order amount).lots
         walk-out l = one_further.cells ∙ ap (λ (s : Taken). s.lots) (sym (walked-left ts priced usable order amount (sym sized) named (k + 1) (omega (arith, one_further.sum))))

@@ -67,7 +67,14 @@ pub struct Supply<'a> {
 impl Supply<'_> {
     // One match, filled: `runs` are the runs done, and the lots go into a lent row of zeros. What is short is forced in run 3 and carried
     // before; where nothing is short, all of the amount is covered.
-    pub fn fill_match(&self, runs: u64, basket: u64, preferential: bool, amount: Yen, lots: &mut [u64]) -> Filling
+    pub fn fill_match(
+        &self,
+        runs: u64,
+        basket: u64,
+        preferential: bool,
+        amount: Yen,
+        lots: &mut [u64],
+    ) -> Filling
         requires { Asked (length self.now.usable.now) amount.0 lots.old }
         ensures { FilledAs (filled runs preferential (terms_in (length self.now.usable.now) self.now.terms.now) self.now.usable.now self.now.order.now (forced_issue basket (terms_in (length self.now.usable.now) self.now.terms.now) self.now.notified.now) amount.0) result lots.new }
     {
@@ -165,7 +172,14 @@ impl Supply<'_> {
 
     // The turn of issue i: what the match then has of it goes into lots, and what it is then worth is the answer. None where it takes
     // nothing.
-    fn take_turn(&self, pass: Pass, i: usize, reached: Yen, amount: Yen, lots: &mut [u64]) -> Option<Yen>
+    fn take_turn(
+        &self,
+        pass: Pass,
+        i: usize,
+        reached: Yen,
+        amount: Yen,
+        lots: &mut [u64],
+    ) -> Option<Yen>
         requires { Ready pass self.now.rates.now lots.old self.now.usable.now i reached.0 amount.0 }
         ensures { Stepped pass (get_or self.now.rates.now i 0) lots.old self.now.usable.now i reached.0 amount.0 lots.new result }
     {

@@ -1,5 +1,4 @@
 -- `forced::forced_issue` meets its contract. Assumes nothing.
-use Rattle.std.proofs.Common.{subst}
 use Rattle.forced.proofs.ChoiceLaws.{forced-best, forced-fifth}
 use Rattle.forced.proofs.forced_issue.Goals as goal
 
