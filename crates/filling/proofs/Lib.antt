@@ -1,5 +1,4 @@
 -- Laws that the proofs cite.
-pub mod RowLaws
 pub mod OnceLaws
 pub mod PassLaws
 pub mod WalkLaws

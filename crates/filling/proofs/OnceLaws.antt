@@ -1,12 +1,11 @@
 -- An order that names no place twice. Assumes nothing.
-use mathlib.Core.Path.{◌≡◌, refl, sym, ap, ◌∙◌}
+use mathlib.Core.Path.{◌≡◌, refl, sym, ap}
 use Prim.Native.Nat.{ℕ, zero, suc, ◌+◌, ◌≤◌, ◌<◌}
 use native.Mathlib.Nat.{not-suc-le-zero, le_of_suc-le-suc}
 use native.Mathlib.Omega.{arith}
 use mathlib.Core.Bool.{Bool}
 use mathlib.Core.List.{List, [], ◌∷◌}
-use lib.ListN.{length, get_or, take}
-use lib.Seq.{get_or-take, length-take-le}
+use lib.ListN.{length, get_or}
 use lib.Dec.{eqb}
 use borrow.Author.Tests.{eq-eqb, eqb-true}
 use Rattle.lists.specs.Tests.{pick}
@@ -50,23 +49,14 @@ one_place p (x ∷ xs) m (suc j) (suc k) h i d e = ap suc (one_place p xs (omega
 
 -- ---- for callers: what is kept of a ranking names issues of the day, none of them twice
 
-pub order-named : (issues count : ℕ) (key : ℕ → ℕ) (live : ℕ → Bool) (order : List ℕ) → length order ≡ 32 → issues ≤ 32 → count ≤ issues
-    → take count order ≡ keep live (ranked key issues) → Named issues count order
-order-named issues count key live order long most few e = record {
-  long = long;
-  few = omega arith;
-  inside = λ k h. rw (← place k h) (every-at (λ i. i < issues) 0 kept (every-keep (λ i. i < issues) live (ranked key issues) (ranked-below key issues)) k (omega (arith, size)));
+pub kept-named : (issues : ℕ) (key : ℕ → ℕ) (live : ℕ → Bool) → Named issues (keep live (ranked key issues))
+kept-named issues key live = record {
+  inside = λ k h. every-at (λ i. i < issues) 0 kept (every-keep (λ i. i < issues) live (ranked key issues) (ranked-below key issues)) k h;
   once = λ j k h i q.
-      let p : ℕ = get_or order k 0 in
+      let p : ℕ = get_or kept j 0 in
       one_place p kept (omega (arith, total-keep-most (λ x. pick (eqb x p) 1 0) live (ranked key issues), total-sorted key (λ x. pick (eqb x p) 1 0) (up_to issues), at-most-once p 0 issues))
-      j k (omega (arith, size)) (omega (arith, size)) (place j h ∙ q) (place k i);
+      j k h i refl (sym q);
 }
   where
     kept : List ℕ
     kept = keep live (ranked key issues)
-
-    size : length kept ≡ count
-    size = ap length (sym e) ∙ length-take-le count order (omega arith)
-
-    place : (k : ℕ) → k < count → get_or kept k 0 ≡ get_or order k 0
-    place k h = ap (λ (l : List ℕ). get_or l k 0) (sym e) ∙ get_or-take count order k 0 h

@@ -1,9 +1,9 @@
--- The passes of a drawn match, by number, with what stands in each: the code's turn is the rule's step, and where the amount is
+-- The passes of a drawn match, with what stands in each: the code's turn is the rule's step, and where the amount is
 -- reached the rest of this pass and the later ones change nothing. Assumes nothing.
 use mathlib.Core.Path.{◌≡◌, refl, ◌∙◌}
 use mathlib.Core.Logic.{◌≢◌}
-use Prim.Native.Nat.{ℕ, zero, suc, ◌+◌, ◌-◌, ◌*◌, ◌/◌, ◌≤◌, ◌<◌, min, max}
-use native.Mathlib.Nat.{le_refl, le_trans, not-suc-le-zero}
+use Prim.Native.Nat.{ℕ, ◌-◌, ◌*◌, ◌/◌, ◌≤◌, ◌<◌, min, max}
+use native.Mathlib.Nat.{le_refl, le_trans}
 use native.Mathlib.Decide.{dec_le}
 use native.Mathlib.Omega.{arith}
 use mathlib.Core.List.{List, [], ◌∷◌}
@@ -15,41 +15,40 @@ use Rattle.lists.proofs.TableLaws.{length-table, get_or-zeros, set-kept}
 use Rattle.rule.specs.Value.{Terms, no_terms, value, fewest, most}
 use Rattle.rule.specs.Filling.{worth, Taken, nothing, lots_of, others, become, take_up_to, walk, fill_preferential, unit, target, take_units, first_pass, with_remainder, second_pass, fill_drawn}
 use Rattle.rule.proofs.ValueLaws.{value-strict, most-keeps, most-greatest}
-use Rattle.rule.proofs.FillingLaws.{Priced, Good, Units, apart, worth-zeros, become-same, walk-good, walk-idle, pass-good}
-use Rattle.turns.specs.Turns.{besides, bound_of, next_of, up_to, whole_units}
+use Rattle.rule.proofs.FillingLaws.{Priced, Good, Units as Whole, apart, worth-zeros, become-same, walk-good, walk-idle, pass-good}
+use Rattle.turns.specs.Turns.{besides, up_to, whole_units}
+use Rattle.turns.specs.Passes.{bound_of, next_of, Fresh}
+use Rattle.turns.specs.declared.Pass.{Pass}
+use Rattle.turns.specs.declared.Pass.TheVariants.{Units, Remainders, Rest}
 use Rattle.lists.proofs.FoldLaws.{foldl-split, every_take, every_drop}
 
--- the step of a pass, and what the match has where the pass begins
-abbrev pub step : List Terms → List ℕ → List ℕ → ℕ → ℕ → Taken → ℕ → Taken
-step ts usable order amount zero = take_units ts (target amount) usable
-step ts usable order amount (suc zero) = take_units ts (target amount) usable
-step ts usable order amount (suc (suc zero)) = take_up_to ts amount (with_remainder usable (first_pass ts usable order amount))
-step ts usable order amount (suc (suc (suc p))) = take_up_to ts amount (λ i. get_or usable i 0)
+-- the step of a pass, what the match has where the pass begins, and where it is over
+abbrev pub step : List Terms → List ℕ → List ℕ → ℕ → Pass → Taken → ℕ → Taken
+step ts usable order amount Units = take_units ts (target amount) usable
+step ts usable order amount Remainders = take_up_to ts amount (with_remainder usable (first_pass ts usable order amount))
+step ts usable order amount Rest = take_up_to ts amount (λ i. get_or usable i 0)
 
-abbrev pub begun : List Terms → List ℕ → List ℕ → ℕ → ℕ → Taken
-begun ts usable order amount zero = nothing (length usable)
-begun ts usable order amount (suc zero) = nothing (length usable)
-begun ts usable order amount (suc (suc zero)) = first_pass ts usable order amount
-begun ts usable order amount (suc (suc (suc zero))) = second_pass ts usable order amount
-begun ts usable order amount (suc (suc (suc (suc p)))) = fill_drawn ts usable order amount
+abbrev pub begun : List Terms → List ℕ → List ℕ → ℕ → Pass → Taken
+begun ts usable order amount Units = nothing (length usable)
+begun ts usable order amount Remainders = first_pass ts usable order amount
+begun ts usable order amount Rest = second_pass ts usable order amount
+
+abbrev pub over : List Terms → List ℕ → List ℕ → ℕ → Pass → Taken
+over ts usable order amount Units = first_pass ts usable order amount
+over ts usable order amount Remainders = second_pass ts usable order amount
+over ts usable order amount Rest = fill_drawn ts usable order amount
 
 -- what the match has after k issues of the pass
-abbrev pub after : List Terms → List ℕ → List ℕ → ℕ → ℕ → ℕ → Taken
+abbrev pub after : List Terms → List ℕ → List ℕ → ℕ → Pass → ℕ → Taken
 after ts usable order amount p k = foldl (step ts usable order amount p) (begun ts usable order amount p) (take k order)
 
 -- what a turn of the pass asks of what the match has
-pub record Stands (ts : List Terms) (usable order : List ℕ) (amount pass : ℕ) (s : Taken) : Type 0 where
+pub record Stands (ts : List Terms) (usable order : List ℕ) (amount : ℕ) (pass : Pass) (s : Taken) : Type 0 where
   pub sized : length s.lots ≡ length ts
   pub bounded : (i : ℕ) → lots_of s i ≤ bound_of pass (get_or usable i 0) (lots_of s i)
   pub within : (i : ℕ) → lots_of s i ≤ get_or usable i 0
-  pub kept : pass ≡ 1 → worth ts s.lots ≤ target amount
   pub turned : (i : ℕ) → i < length ts
       → step ts usable order amount pass s i ≡ become s i (next_of pass (get_or ts i no_terms) (get_or usable i 0) (lots_of s i) (worth ts s.lots) amount)
-
--- and of the n lots of an issue that the pass did not meet yet
-pub record Unmet (pass n : ℕ) : Type 0 where
-  pub none : pass ≡ 1 → n ≡ 0
-  pub whole : pass ≡ 2 → n / unit * unit ≡ n
 
 -- a pass does not change the lots of an issue that it does not meet
 fold-other : (f : Taken → ℕ → Taken) → ((s : Taken) (i j : ℕ) → j ≢ i → lots_of (f s i) j ≡ lots_of s j)
@@ -99,7 +98,7 @@ module _ (ts : List Terms) (priced : Priced ts) (usable : List ℕ) (order : Lis
     abbrev units : Taken → ℕ → ℕ
     units s i = min (may i / unit) (most (get_or ts i no_terms) (goal - others ts s i) / unit) * unit
 
-    units-idle : (s : Taken) (i : ℕ) → i < length ts → Units ts priced usable goal s → goal ≤ worth ts s.lots → take_units ts goal usable s i ≡ s
+    units-idle : (s : Taken) (i : ℕ) → i < length ts → Whole ts priced usable goal s → goal ≤ worth ts s.lots → take_units ts goal usable s i ≡ s
     unfolding take_units
     units-idle s i h u r =
         let t : Terms = get_or ts i no_terms in
@@ -119,30 +118,28 @@ module _ (ts : List Terms) (priced : Priced ts) (usable : List ℕ) (order : Lis
               u.kept,
             ))
 
-    pub pass-idle : (xs : List ℕ) → inside xs → (s : Taken) → Units ts priced usable goal s → goal ≤ worth ts s.lots
+    pub pass-idle : (xs : List ℕ) → inside xs → (s : Taken) → Whole ts priced usable goal s → goal ≤ worth ts s.lots
         → foldl (take_units ts goal usable) s xs ≡ s
     pass-idle [] q s u r = refl
     pass-idle (i ∷ is) q s u r = rw (units-idle s i q.0 u r) (pass-idle is q.1 s u r)
 
   -- ---- what stands in each pass
 
-  pub stands-first : (s : Taken) → Units ts priced usable (target amount) s → Stands ts usable order amount 1 s
-  unfolding bound_of next_of whole_units take_units
+  pub stands-first : (s : Taken) → Whole ts priced usable (target amount) s → Stands ts usable order amount Units s
+  unfolding whole_units take_units
   stands-first s u = record {
     sized = u.good.sized;
     bounded = λ i. u.good.bounded i;
     within = λ i. omega (arith, u.good.bounded i);
-    kept = λ e. u.kept;
     turned = λ i h. rw (besides-others s i h u.good.sized);
   }
 
-  pub stands-third : (s : Taken) → Good ts may s → Stands ts usable order amount 3 s
-  unfolding bound_of next_of up_to take_up_to
+  pub stands-third : (s : Taken) → Good ts may s → Stands ts usable order amount Rest s
+  unfolding up_to take_up_to
   stands-third s g = record {
     sized = g.sized;
     bounded = λ i. g.bounded i;
     within = g.bounded;
-    kept = λ e. absurd (omega arith);
     turned = λ i h. rw (besides-others s i h g.sized);
   }
 
@@ -156,7 +153,7 @@ module _ (ts : List Terms) (priced : Priced ts) (usable : List ℕ) (order : Lis
     pub nothing-worth : worth ts (zeros (length usable)) ≡ 0
     nothing-worth = worth-zeros ts (zeros (length usable)) (get_or-zeros (length usable))
 
-    nothing-units : Units ts priced usable (target amount) (nothing (length usable))
+    nothing-units : Whole ts priced usable (target amount) (nothing (length usable))
     nothing-units = record { good = nothing-good _; whole = λ i. omega (arith, get_or-zeros (length usable) i); kept = omega (arith, nothing-worth) }
 
     abbrev first : Taken
@@ -165,7 +162,7 @@ module _ (ts : List Terms) (priced : Priced ts) (usable : List ℕ) (order : Lis
     abbrev remainders : ℕ → ℕ
     remainders = with_remainder usable first
 
-    first-units : Units ts priced usable (target amount) first
+    first-units : Whole ts priced usable (target amount) first
     unfolding first_pass
     first-units = pass-good ts priced usable (target amount) order named (nothing (length usable)) nothing-units
 
@@ -182,17 +179,16 @@ module _ (ts : List Terms) (priced : Priced ts) (usable : List ℕ) (order : Lis
     unfolding with_remainder
     between-units s b i = omega (arith, b.above i, b.good.bounded i, first-units.whole i)
 
-    stands-second : (s : Taken) → Between s → Stands ts usable order amount 2 s
-    unfolding bound_of next_of up_to take_up_to with_remainder
+    stands-second : (s : Taken) → Between s → Stands ts usable order amount Remainders s
+    unfolding up_to take_up_to with_remainder
     stands-second s b = record {
       sized = b.good.sized;
       bounded = λ i. omega (arith, between-units s b i, b.good.bounded i);
       within = λ i. omega (arith, b.good.bounded i, first-units.good.bounded i);
-      kept = λ e. absurd (omega arith);
       turned = λ i h. rw (besides-others s i h b.good.sized, between-units s b i);
     }
 
-    between-at : (k : ℕ) → Between (after ts usable order amount 2 k)
+    between-at : (k : ℕ) → Between (after ts usable order amount Remainders k)
     unfolding walk
     between-at k =
         let q : inside (take k order) = every_take _ k order named in
@@ -201,32 +197,33 @@ module _ (ts : List Terms) (priced : Priced ts) (usable : List ℕ) (order : Lis
           above = walk-above remainders (take k order) q first first-within;
         }
 
-    -- an issue that is not met yet has nothing in the first pass, and whole units in the second
-    pub unmet : (p k j : ℕ) → Every (λ i. j ≢ i) (take k order) → Unmet p (lots_of (after ts usable order amount p k) j)
-    unmet p k j q = record {
-      none = λ e. rw e (fold-other (take_units ts (target amount) usable) (units-other (target amount)) (take k order) j q (nothing (length usable)) ∙ get_or-zeros (length usable) j);
-      whole = λ e. rw (e, fold-other (take_up_to ts amount remainders) (up-to-other remainders) (take k order) j q first) (first-units.whole j);
-    }
-
     second-within : Good ts may (second_pass ts usable order amount)
     unfolding second_pass walk with_remainder
     second-within =
         let g : Good ts remainders (second_pass ts usable order amount) = walk-good ts priced amount remainders order named first first-within in
         record { sized = g.sized; bounded = λ i. omega (arith, g.bounded i, first-units.good.bounded i) }
 
-    units-at : (k : ℕ) → Units ts priced usable (target amount) (after ts usable order amount 1 k)
+    units-at : (k : ℕ) → Whole ts priced usable (target amount) (after ts usable order amount Units k)
     units-at k = pass-good ts priced usable (target amount) (take k order) (every_take _ k order named) (nothing (length usable)) nothing-units
 
-    third_at : (k : ℕ) → Good ts may (after ts usable order amount 3 k)
+    third_at : (k : ℕ) → Good ts may (after ts usable order amount Rest k)
     unfolding walk
     third_at k = walk-good ts priced amount may (take k order) (every_take _ k order named) (second_pass ts usable order amount) second-within
 
-    pub stands_at : (p k : ℕ) → 1 ≤ p → p < 4 → Stands ts usable order amount p (after ts usable order amount p k)
-    stands_at zero k h l = absurd (not-suc-le-zero h)
-    stands_at (suc zero) k h l = stands-first _ (units-at k)
-    stands_at (suc (suc zero)) k h l = stands-second _ (between-at k)
-    stands_at (suc (suc (suc zero))) k h l = stands-third _ (third_at k)
-    stands_at (suc (suc (suc (suc p)))) k h l = absurd (omega arith)
+    pub stands_at : (p : Pass) (k : ℕ) → Stands ts usable order amount p (after ts usable order amount p k)
+    stands_at Units k = stands-first _ (units-at k)
+    stands_at Remainders k = stands-second _ (between-at k)
+    stands_at Rest k = stands-third _ (third_at k)
+
+    -- an issue that is not met yet has nothing in the first pass, which keeps to its target, and whole units in the second
+    pub fresh-at : (p : Pass) (k j : ℕ) → Every (λ i. j ≢ i) (take k order)
+        → Fresh p (lots_of (after ts usable order amount p k) j) (worth ts (after ts usable order amount p k).lots) amount
+    fresh-at Units k j q = (
+      fold-other (take_units ts (target amount) usable) (units-other (target amount)) (take k order) j q (nothing (length usable)) ∙ get_or-zeros (length usable) j,
+      (units-at k).kept,
+    )
+    fresh-at Remainders k j q = rw (fold-other (take_up_to ts amount remainders) (up-to-other remainders) (take k order) j q first) (first-units.whole j)
+    fresh-at Rest k j q = tt
 
     -- ---- the amount is reached
 
@@ -240,26 +237,24 @@ module _ (ts : List Terms) (priced : Priced ts) (usable : List ℕ) (order : Lis
         ∙ walk-idle ts priced amount bound (drop k order) (every_drop _ k order named) (foldl (take_up_to ts amount bound) s (take k order)) g r
 
     -- the rest of the pass changes nothing
-    rest : (p k : ℕ) → 1 ≤ p → p < 4 → Reached (after ts usable order amount p k) → begun ts usable order amount (suc p) ≡ after ts usable order amount p k
+    rest : (p : Pass) (k : ℕ) → Reached (after ts usable order amount p k) → over ts usable order amount p ≡ after ts usable order amount p k
     unfolding first_pass second_pass fill_drawn target
-    rest zero k h l r = absurd (not-suc-le-zero h)
-    rest (suc zero) k h l r = foldl-split (take_units ts (target amount) usable) order k (nothing (length usable))
+    rest Units k r = foldl-split (take_units ts (target amount) usable) order k (nothing (length usable))
         ∙ pass-idle (target amount) (drop k order) (every_drop _ k order named) _ (units-at k) (omega arith)
-    rest (suc (suc zero)) k h l r = walk-left remainders k first (between-at k).good r
-    rest (suc (suc (suc zero))) k h l r = walk-left may k (second_pass ts usable order amount) (third_at k) r
-    rest (suc (suc (suc (suc p)))) k h l r = absurd (omega arith)
+    rest Remainders k r = walk-left remainders k first (between-at k).good r
+    rest Rest k r = walk-left may k (second_pass ts usable order amount) (third_at k) r
 
     -- nor do the later passes
-    later : (p k : ℕ) → 1 ≤ p → p + k ≡ 4 → Reached (begun ts usable order amount p) → fill_drawn ts usable order amount ≡ begun ts usable order amount p
-    later p zero h e r = let q : p ≡ 4 = omega arith in rw q
-    later p (suc k) h e r =
-        let q : begun ts usable order amount (suc p) ≡ begun ts usable order amount p = rest p 0 h (omega arith) r in
-        later (suc p) k (omega arith) (omega arith) (rw q r) ∙ q
+    later-second : Reached (over ts usable order amount Remainders) → fill_drawn ts usable order amount ≡ second_pass ts usable order amount
+    later-second r = rest Rest 0 r
 
-    pub left : (p k : ℕ) → 1 ≤ p → p < 4 → Reached (after ts usable order amount p k) → fill_drawn ts usable order amount ≡ after ts usable order amount p k
-    left p k h l r =
-        let q : begun ts usable order amount (suc p) ≡ after ts usable order amount p k = rest p k h l r in
-        later (suc p) (3 - p) (omega arith) (omega arith) (rw q r) ∙ q
+    later : (p : Pass) → Reached (over ts usable order amount p) → fill_drawn ts usable order amount ≡ over ts usable order amount p
+    later Units r = let q : second_pass ts usable order amount ≡ first = rest Remainders 0 r in later-second (rw q r) ∙ q
+    later Remainders r = later-second r
+    later Rest r = refl
+
+    pub left : (p : Pass) (k : ℕ) → Reached (after ts usable order amount p k) → fill_drawn ts usable order amount ≡ after ts usable order amount p k
+    left p k r = let q = rest p k r in later p (rw q r) ∙ q
 
     -- ---- the same of a preferential match, which is one walk like the third pass
 
@@ -270,7 +265,7 @@ module _ (ts : List Terms) (priced : Priced ts) (usable : List ℕ) (order : Lis
     unfolding walk
     walked-good k = walk-good ts priced amount may (take k order) (every_take _ k order named) (nothing (length usable)) (nothing-good may)
 
-    pub walked-stands : (k : ℕ) → Stands ts usable order amount 3 (walked k)
+    pub walked-stands : (k : ℕ) → Stands ts usable order amount Rest (walked k)
     walked-stands k = stands-third _ (walked-good k)
 
     pub walked-left : (k : ℕ) → Reached (walked k) → fill_preferential ts usable order amount ≡ walked k

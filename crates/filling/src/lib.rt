@@ -1,110 +1,15 @@
-// How many lots of which issues a match gets. Everything is by issue number, in arrays of 32 of which the day's issues are
-// the first; rates stand for prices.
+// How many lots of which issues a match gets. Everything is by issue number; rates stand for prices.
 #![tactic(auto)]
 
-ghost use Rattle.std.specs.Prelude.{◌≡◌, false, List, length, get_or, take};
-ghost use Rattle.rule.specs.Value.{Terms};
-ghost use Rattle.rule.specs.Filling.{worth as worth_of, covered as covered_of, fill_preferential, fill_drawn, fill as fill_of, forced_issue, force as force_of, carry as carry_of, filled};
-ghost use Rattle.value.specs.Rated.{Rates, terms_in};
-ghost use Rattle.filling.specs.Rows.{Ready, Stepped, padded, Emptied, Fillable, Wanted};
-ghost use Rattle.filling.specs.Match.{Coverable, Idle, Matchable, Forcible, FilledAs};
+ghost use Rattle.std.specs.Prelude.{◌≡◌, false, length, get_or};
+ghost use Rattle.rule.specs.Filling.{covered as covered_of, fill_preferential, fill_drawn, fill as fill_of, forced_issue, force as force_of, carry as carry_of, filled};
+ghost use Rattle.value.specs.Rated.{terms_in};
+ghost use Rattle.filling.specs.Rows.{Ready, Stepped, Asked, Wanted};
+ghost use Rattle.filling.specs.Match.{Coverable, Idle, Supplied, Forcible, FilledAs};
 
 use rule::{Lots, Yen};
+use turns::{Pass, Standing};
 use value::Rate;
-
-// What a match is worth after a turn, and whether it ends there: the amount is reached.
-#[derive(Clone, Copy)]
-struct Step {
-    reached: Yen,
-    ends: bool,
-}
-
-// The turn of issue i: what the match then has of it goes into lots.
-fn take_turn(
-    lots: &mut [u64; 32],
-    usable: &[u64; 32],
-    rates: &[u64; 32],
-    amount: Yen,
-    pass: u64,
-    i: usize,
-    reached: Yen,
-) -> Step
-    requires { Ready pass rates.now lots.old usable.now i reached.0 amount.0 }
-    ensures { Stepped pass (get_or rates.now i 0) lots.old usable.now i reached.0 amount.0 lots.new result }
-{
-    let had = lots[i];
-    let t = turns::next(
-        pass,
-        Rate(rates[i]),
-        Lots(had),
-        Lots(usable[i]),
-        reached,
-        amount,
-    );
-    if !t.taken {
-        return Step {
-            reached,
-            ends: false,
-        };
-    }
-    let n = t.lots;
-    lots[i] = n.0;
-    let worth = t.reached;
-    Step {
-        reached: worth,
-        ends: amount.0 <= worth.0,
-    }
-}
-
-// "A preferential match walks the issues .. and ends with the fewest lots that reach the amount".
-fn fill_preferential(
-    lots: &mut [u64; 32],
-    usable: &[u64; 32],
-    rates: &[u64; 32],
-    order: &[u64; 32],
-    issues: usize,
-    count: usize,
-    amount: Yen,
-)
-    requires { Wanted issues count rates.now lots.old usable.now order.now amount.0 }
-    ensures { (ts : List Terms) → length ts ≡ issues → Rates ts rates.now → lots.new ≡ padded (fill_preferential ts (take issues usable.now) (take count order.now) amount.0).lots }
-{
-    let mut reached = Yen(0);
-    for k in 0..count {
-        let i = order[k] as usize;
-        let step = take_turn(lots, usable, rates, amount, 3, i, reached);
-        reached = step.reached;
-        if step.ends {
-            break;
-        }
-    }
-}
-
-// "A drawn match has three passes .. filling leaves both walks when the amount is reached".
-fn fill_drawn(
-    lots: &mut [u64; 32],
-    usable: &[u64; 32],
-    rates: &[u64; 32],
-    order: &[u64; 32],
-    issues: usize,
-    count: usize,
-    amount: Yen,
-)
-    requires { Wanted issues count rates.now lots.old usable.now order.now amount.0 }
-    ensures { (ts : List Terms) → length ts ≡ issues → Rates ts rates.now → lots.new ≡ padded (fill_drawn ts (take issues usable.now) (take count order.now) amount.0).lots }
-{
-    let mut reached = Yen(0);
-    'passes: for pass in 1u64..4 {
-        for k in 0..count {
-            let i = order[k] as usize;
-            let step = take_turn(lots, usable, rates, amount, pass, i, reached);
-            reached = step.reached;
-            if step.ends {
-                break 'passes;
-            }
-        }
-    }
-}
 
 // "the shortage is rounded up to 10,000,000 yen, at most the amount .. the rest is the covered amount".
 pub fn covered(amount: Yen, usable: Yen) -> Yen
@@ -122,107 +27,6 @@ pub fn covered(amount: Yen, usable: Yen) -> Yen
     Yen(amount.0 - shortage)
 }
 
-// A match as it was filled, beside its lots: the covered amount, and the forced issue and lots, "both 0 if none".
-#[derive(Clone, Copy)]
-pub struct Filling {
-    pub covered: Yen,
-    pub forced: u64,
-    pub forced_lots: Lots,
-}
-
-// "all usable lots go": into a match that has nothing yet.
-fn take_all(lots: &mut [u64; 32], usable: &[u64; 32], issues: usize)
-    requires { Emptied issues lots.old usable.now }
-    ensures { lots.new ≡ padded (take issues usable.now) }
-{
-    for i in 0..issues {
-        lots[i] = usable[i];
-    }
-}
-
-// Usable lots for the amount, in a match that has nothing yet.
-fn fill(
-    preferential: bool,
-    lots: &mut [u64; 32],
-    usable: &[u64; 32],
-    rates: &[u64; 32],
-    order: &[u64; 32],
-    issues: usize,
-    count: usize,
-    amount: Yen,
-)
-    requires { Fillable issues count rates.now lots.old usable.now order.now amount.0 }
-    ensures { (ts : List Terms) → length ts ≡ issues → Rates ts rates.now → lots.new ≡ padded (fill_of preferential ts (take issues usable.now) (take count order.now) amount.0).lots }
-{
-    if amount.0 == 0 {
-        return;
-    }
-    if preferential {
-        fill_preferential(lots, usable, rates, order, issues, count, amount);
-        return;
-    }
-    fill_drawn(lots, usable, rates, order, issues, count, amount);
-}
-
-// "In run 3 all usable lots go, and the fewest further lots of one forced issue reach the amount".
-fn force(
-    lots: &mut [u64; 32],
-    usable: &[u64; 32],
-    rates: &[u64; 32],
-    notified: &[u64],
-    terms: &[u64],
-    issues: usize,
-    basket: u64,
-    reached: Yen,
-    amount: Yen,
-) -> Filling
-    requires { Forcible issues terms.now notified.now usable.now rates.now reached.0 amount.0 lots.old }
-    ensures { FilledAs (force_of (terms_in issues terms.now) (take issues usable.now) (forced_issue basket (terms_in issues terms.now) (take issues notified.now)) amount.0) result lots.new }
-{
-    take_all(lots, usable, issues);
-    let forced = forced::forced_issue(terms, basket, issues, notified);
-    let i = forced as usize;
-    let further = turns::further_lots(Rate(rates[i]), Lots(usable[i]), reached, amount);
-    Filling {
-        covered: amount,
-        forced,
-        forced_lots: further,
-    }
-}
-
-// "the shortage .. stays in both positions; the rest is the covered amount and is filled afresh".
-fn carry(
-    preferential: bool,
-    lots: &mut [u64; 32],
-    usable: &[u64; 32],
-    rates: &[u64; 32],
-    order: &[u64; 32],
-    issues: usize,
-    count: usize,
-    all: Yen,
-    amount: Yen,
-) -> Filling
-    requires { Fillable issues count rates.now lots.old usable.now order.now amount.0 }
-    ensures { (ts : List Terms) → length ts ≡ issues → Rates ts rates.now → all.0 ≡ worth_of ts (take issues usable.now) → FilledAs (carry_of preferential ts (take issues usable.now) (take count order.now) amount.0) result lots.new }
-{
-    let part = covered(amount, all);
-    fill(
-        preferential,
-        lots,
-        usable,
-        rates,
-        order,
-        issues,
-        count,
-        part,
-    );
-    Filling {
-        covered: part,
-        forced: 0,
-        forced_lots: Lots(0),
-    }
-}
-
 // Whether filling goes through the issues: not where what is short is forced, or nothing is covered.
 pub fn goes_through(runs: u64, all: Yen, amount: Yen) -> bool
     requires { Coverable amount.0 }
@@ -238,41 +42,155 @@ pub fn goes_through(runs: u64, all: Yen, amount: Yen) -> bool
     rest.0 > 0
 }
 
-// One match, filled: `runs` are the runs done, the first `count` cells of the order are gone through, `all` is what all usable lots are
-// worth, and the lots go into a lent row of zeros. What is short is forced in run 3 and carried before; where nothing is short, all of
-// the amount is covered.
-pub fn fill_match(
-    runs: u64,
-    preferential: bool,
-    basket: u64,
-    issues: usize,
-    terms: &[u64],
-    notified: &[u64],
-    usable: &[u64; 32],
-    order: &[u64; 32],
-    count: usize,
-    rates: &[u64; 32],
-    all: Yen,
-    amount: Yen,
-    lots: &mut [u64; 32],
-) -> Filling
-    requires { Matchable issues count terms.now notified.now usable.now order.now rates.now all.0 amount.0 lots.old }
-    ensures { FilledAs (filled runs preferential (terms_in issues terms.now) (take issues usable.now) (take count order.now) (forced_issue basket (terms_in issues terms.now) (take issues notified.now)) amount.0) result lots.new }
-{
-    if runs >= 2 && all.0 < amount.0 {
-        return force(
-            lots, usable, rates, notified, terms, issues, basket, all, amount,
-        );
+// A match as it was filled, beside its lots: the covered amount, and the forced issue and lots, "both 0 if none". No Option: the list's
+// entry and the lots used take both numbers as they are, without a branch.
+#[derive(Clone, Copy)]
+pub struct Filling {
+    pub covered: Yen,
+    pub forced: u64,
+    pub forced_lots: Lots,
+}
+
+// What a match may use of its deliverer's lots, and in which order: `all` is what all usable lots are worth. There are six terms to an
+// issue, and the order need not name every issue.
+#[derive(Clone, Copy)]
+pub struct Supply<'a> {
+    pub terms: &'a [u64],
+    pub rates: &'a [u64],
+    pub notified: &'a [u64],
+    pub usable: &'a [u64],
+    pub order: &'a [u64],
+    pub all: Yen,
+    pub ghost supplied: { Supplied terms.now rates.now notified.now usable.now order.now all.0 },
+}
+
+impl Supply<'_> {
+    // One match, filled: `runs` are the runs done, and the lots go into a lent row of zeros. What is short is forced in run 3 and carried
+    // before; where nothing is short, all of the amount is covered.
+    pub fn fill_match(
+        &self,
+        runs: u64,
+        basket: u64,
+        preferential: bool,
+        amount: Yen,
+        lots: &mut [u64],
+    ) -> Filling
+        requires { Asked (length self.now.usable.now) amount.0 lots.old }
+        ensures { FilledAs (filled runs preferential (terms_in (length self.now.usable.now) self.now.terms.now) self.now.usable.now self.now.order.now (forced_issue basket (terms_in (length self.now.usable.now) self.now.terms.now) self.now.notified.now) amount.0) result lots.new }
+    {
+        if runs >= 2 && self.all.0 < amount.0 {
+            return self.force(basket, amount, lots);
+        }
+        self.carry(preferential, amount, lots)
     }
-    carry(
-        preferential,
-        lots,
-        usable,
-        rates,
-        order,
-        issues,
-        count,
-        all,
-        amount,
-    )
+
+    // "In run 3 all usable lots go, and the fewest further lots of one forced issue reach the amount".
+    fn force(&self, basket: u64, amount: Yen, lots: &mut [u64]) -> Filling
+        requires { Forcible (length self.now.usable.now) self.now.all.0 amount.0 (length lots.old) }
+        ensures { FilledAs (force_of (terms_in (length self.now.usable.now) self.now.terms.now) self.now.usable.now (forced_issue basket (terms_in (length self.now.usable.now) self.now.terms.now) self.now.notified.now) amount.0) result lots.new }
+    {
+        lots.copy_from_slice(self.usable);
+        let i = forced::forced_issue(self.terms, basket, self.notified);
+        let standing = Standing {
+            rate: Rate(self.rates[i]),
+            had: Lots(self.usable[i]),
+            reached: self.all,
+        };
+        let further = standing.further_lots(amount);
+        Filling {
+            covered: amount,
+            forced: i as u64,
+            forced_lots: further,
+        }
+    }
+
+    // "the shortage .. stays in both positions; the rest is the covered amount and is filled afresh".
+    fn carry(&self, preferential: bool, amount: Yen, lots: &mut [u64]) -> Filling
+        requires { Asked (length self.now.usable.now) amount.0 lots.old }
+        ensures { FilledAs (carry_of preferential (terms_in (length self.now.usable.now) self.now.terms.now) self.now.usable.now self.now.order.now amount.0) result lots.new }
+    {
+        let part = covered(amount, self.all);
+        self.fill(preferential, part, lots);
+        Filling {
+            covered: part,
+            forced: 0,
+            forced_lots: Lots(0),
+        }
+    }
+
+    // Usable lots for the amount, in a match that has nothing yet.
+    fn fill(&self, preferential: bool, amount: Yen, lots: &mut [u64])
+        requires { Asked (length self.now.usable.now) amount.0 lots.old }
+        ensures { lots.new ≡ (fill_of preferential (terms_in (length self.now.usable.now) self.now.terms.now) self.now.usable.now self.now.order.now amount.0).lots }
+    {
+        if amount.0 == 0 {
+            return;
+        }
+        if preferential {
+            self.fill_preferential(amount, lots);
+        } else {
+            self.fill_drawn(amount, lots);
+        }
+    }
+
+    // "A preferential match walks the issues .. and ends with the fewest lots that reach the amount".
+    fn fill_preferential(&self, amount: Yen, lots: &mut [u64])
+        requires { Wanted (length self.now.usable.now) amount.0 lots.old }
+        ensures { lots.new ≡ (fill_preferential (terms_in (length self.now.usable.now) self.now.terms.now) self.now.usable.now self.now.order.now amount.0).lots }
+    {
+        let mut reached = Yen(0);
+        for issue in self.order {
+            let i = *issue as usize;
+            if let Some(worth) = self.take_turn(Pass::Rest, i, reached, amount, lots) {
+                reached = worth;
+                if amount.0 <= worth.0 {
+                    break;
+                }
+            }
+        }
+    }
+
+    // "A drawn match has three passes .. filling leaves both walks when the amount is reached".
+    fn fill_drawn(&self, amount: Yen, lots: &mut [u64])
+        requires { Wanted (length self.now.usable.now) amount.0 lots.old }
+        ensures { lots.new ≡ (fill_drawn (terms_in (length self.now.usable.now) self.now.terms.now) self.now.usable.now self.now.order.now amount.0).lots }
+    {
+        let mut reached = Yen(0);
+        'passes: for pass in [Pass::Units, Pass::Remainders, Pass::Rest] {
+            for issue in self.order {
+                let i = *issue as usize;
+                let Some(worth) = self.take_turn(pass, i, reached, amount, lots) else {
+                    continue;
+                };
+                reached = worth;
+                if amount.0 <= reached.0 {
+                    break 'passes;
+                }
+            }
+        }
+    }
+
+    // The turn of issue i: what the match then has of it goes into lots, and what it is then worth is the answer. None where it takes
+    // nothing.
+    fn take_turn(
+        &self,
+        pass: Pass,
+        i: usize,
+        reached: Yen,
+        amount: Yen,
+        lots: &mut [u64],
+    ) -> Option<Yen>
+        requires { Ready pass self.now.rates.now lots.old self.now.usable.now i reached.0 amount.0 }
+        ensures { Stepped pass (get_or self.now.rates.now i 0) lots.old self.now.usable.now i reached.0 amount.0 lots.new result }
+    {
+        let standing = Standing {
+            rate: Rate(self.rates[i]),
+            had: Lots(lots[i]),
+            reached,
+        };
+        let turn = standing.next(pass, Lots(self.usable[i]), amount)?;
+        let taken = turn.lots;
+        lots[i] = taken.0;
+        Some(turn.reached)
+    }
 }

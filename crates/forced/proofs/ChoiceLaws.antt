@@ -1,16 +1,17 @@
 -- The forced issue, chosen on the way down the issues. Assumes nothing.
-use mathlib.Core.Path.{◌≡◌, refl, sym, ap, ◌∙◌}
-use mathlib.Core.Logic.{◌⊎◌, ⊎_elim}
+use mathlib.Core.Path.{◌≡◌, refl, sym, ap, subst, ◌∙◌}
+use mathlib.Core.Logic.{◌⊎◌, inl, inr, ⊎_elim}
 use Prim.Native.Nat.{ℕ, suc, ◌+◌, ◌-◌, ◌*◌, ◌≤◌, ◌<◌, suc-le-suc}
 use native.Mathlib.Nat.{le_refl, not-suc-le-zero}
 use native.Mathlib.Decide.{ℕ_discrete}
 use native.Mathlib.Omega.{arith}
 use mathlib.Core.Bool.{Bool, true, false, ◌&&◌}
 use mathlib.Core.List.{List, [], ◌∷◌}
-use lib.ListN.{length, get_or, take}
-use lib.Seq.{get_or-take}
+use lib.ListN.{length, get_or}
 use lib.Dec.{eqb, leb, ltb}
 use borrow.Author.Tests.{eq-eqb, ne_eqb, lt-ltb, le-ltb, le-leb, lt-leb}
+use Rattle.std.specs.Prelude.{Option, Some, None}
+use Rattle.std.specs.Option.{option_or}
 use Rattle.lists.specs.Tests.{pick, all_below}
 use Rattle.lists.specs.Tables.{from, up_to}
 use Rattle.lists.specs.Folds.{keep, Every}
@@ -23,64 +24,75 @@ use Rattle.rule.specs.Filling.{eligible, or_else, most_notified, fifth_largest, 
 use Rattle.value.specs.Rated.{terms_in}
 use Rattle.value.proofs.TermLaws.{terms-length, kind_at, redeemed-at, interest-at}
 use Rattle.baskets.specs.Kinds.{KindsOf}
-use Rattle.forced.specs.Choice.{is_eligible, ten_year, fifth_among, FirstOf, BestOf, FifthOf}
+use Rattle.forced.specs.Choice.{noted, is_eligible, ten_year, fifth_among, FirstOf, BestAt, BestOf, least_of, FifthAt, FifthOf}
 use Rattle.forced.specs.declared.Best.{Best}
 use Rattle.forced.specs.declared.Fifth.{Fifth}
 
 -- ---- the most notified lots
 
-module _ (n : ℕ → ℕ) {l : List ℕ} {b : Best} (h : BestOf n l b) (i : ℕ) where
+module _ (n : ℕ → ℕ) {l : List ℕ} {most issue : ℕ} (h : BestAt n l most issue) (i : ℕ) where
   -- the issue met has none, or fewer
-  best-stays : (n i ≡ 0) ⊎ (n i < b.most.0) → BestOf n (i ∷ l) b
+  best-stays : (n i ≡ 0) ⊎ (n i < most) → BestAt n (i ∷ l) most issue
   best-stays w = record { all = (⊎_elim (λ e. omega arith) (λ k. omega arith) w, h.all); some = λ s. further s (h.some s) }
     where
-      further : 0 < b.most.0 → FirstOf n l b.most.0 b.issue → FirstOf n (i ∷ l) b.most.0 b.issue
+      further : 0 < most → FirstOf n l most issue → FirstOf n (i ∷ l) most issue
       further s f = record {
         place = suc f.place;
         inside = suc-le-suc f.inside;
         there = f.there;
         rest = f.rest;
-        first = pick_no (eqb (n i) b.most.0) _ _ (ne_eqb (n i) b.most.0 (⊎_elim (λ e q. omega arith) (λ k q. omega arith) w)) ∙ f.first;
+        first = pick_no (eqb (n i) most) _ _ (ne_eqb (n i) most (⊎_elim (λ e q. omega arith) (λ k q. omega arith) w)) ∙ f.first;
       }
 
   -- whether it is eligible or not
-  pub best-kept : (n i ≡ 0) ⊎ (n i < b.most.0) → (e : Bool) → BestOf n (pick e (i ∷ l) l) b
-  best-kept w e = pick-elim (λ m. BestOf n m b) e (i ∷ l) l (best-stays w) h
+  stays : (n i ≡ 0) ⊎ (n i < most) → (e : Bool) → BestAt n (pick e (i ∷ l) l) most issue
+  stays w e = pick-elim (λ m. BestAt n m most issue) e (i ∷ l) l (best-stays w) h
 
   -- it has the most
-  pub best-met : {r : Best} → b.most.0 ≤ n i → r.most.0 ≡ n i → r.issue ≡ i → BestOf n (i ∷ l) r
-  best-met {r} k e q = record {
-    all = (omega arith, every_map (λ j. n j ≤ b.most.0) (λ j. n j ≤ r.most.0) (λ j a. omega arith) l h.all);
+  met : most ≤ n i → BestAt n (i ∷ l) (n i) i
+  met k = record {
+    all = (le_refl (n i), every_map (λ j. n j ≤ most) (λ j. n j ≤ n i) (λ j a. omega arith) l h.all);
     some = λ s. record {
       place = 0;
       inside = omega arith;
-      there = sym e;
-      rest = keep (λ j. eqb (n j) r.most.0) l;
-      first = pick_yes (eqb (n i) r.most.0) _ _ (eq-eqb (n i) r.most.0 (sym e)) ∙ ap (λ (j : ℕ). j ∷ keep (λ j. eqb (n j) r.most.0) l) (sym q);
+      there = refl;
+      rest = keep (λ j. eqb (n j) (n i)) l;
+      first = pick_yes (eqb (n i) (n i)) _ _ (eq-eqb (n i) (n i) refl);
     };
   }
 
+module _ (n : ℕ → ℕ) (l : List ℕ) (i : ℕ) where
+  pub best-kept : (b : Option Best) → BestOf n l b → n i < least_of b → (e : Bool) → BestOf n (pick e (i ∷ l) l) b
+  best-kept None h k e = stays n h i (inl (omega arith)) e
+  best-kept (Some b) h k e = (h.0, stays n h.1 i (inr k) e)
+
+  pub best-met : (b : Option Best) → BestOf n l b → {most : ℕ} → least_of b ≤ most → most ≡ n i → (0 < most) × BestAt n (i ∷ l) most i
+  best-met None h k e = rw e (omega arith, met n h i (omega arith))
+  best-met (Some b) h k e = rw e (omega (arith, h.0), met n h.1 i (omega arith))
+
 -- ---- the fifth largest
 
-module _ {l : List ℕ} {f : Fifth} (h : FifthOf l f) (i : ℕ) where
-  pub fifth-more : {r : Fifth} → f.met < 5 → r.met ≡ f.met + 1 → r.issue ≡ i → FifthOf (i ∷ l) r
-  fifth-more k e q = record {
-    met = omega (arith, h.met);
-    issue = q ∙ (let z : suc (length l) - 5 ≡ 0 = omega (arith, h.met) in rw z);
+module _ {l : List ℕ} {met issue : ℕ} (h : FifthAt l met issue) (i : ℕ) where
+  pub fifth-more : met < 5 → FifthAt (i ∷ l) (met + 1) i
+  fifth-more k = record {
+    met_is = omega (arith, h.met_is);
+    issue_is = let z : suc (length l) - 5 ≡ 0 = omega (arith, h.met_is) in rw z refl;
   }
 
-  pub fifth-stays : 5 ≤ f.met → FifthOf (i ∷ l) f
+  pub fifth-stays : 5 ≤ met → FifthAt (i ∷ l) met issue
   fifth-stays k = record {
-    met = omega (arith, h.met);
-    issue = h.issue ∙ (let z : suc (length l) - 5 ≡ suc (length l - 5) = omega (arith, h.met) in rw z);
+    met_is = omega (arith, h.met_is);
+    issue_is = h.issue_is ∙ (let z : suc (length l) - 5 ≡ suc (length l - 5) = omega (arith, h.met_is) in rw z);
   }
 
 -- ---- an issue met
 
 -- the issues of kind 2, with one more in front
-pub ten-more : (ts : List Terms) (l : List ℕ) (i kind : ℕ) {f : Fifth} → (get_or ts i no_terms).kind ≡ kind
-    → FifthOf (pick (eqb kind 2) (i ∷ ten_year ts l) (ten_year ts l)) f → FifthOf (ten_year ts (i ∷ l)) f
-ten-more ts l i kind e h = rw e h
+ten-more : (ts : List Terms) (l : List ℕ) (i : ℕ) → (get_or ts i no_terms).kind ≡ 2 → ten_year ts (i ∷ l) ≡ i ∷ ten_year ts l
+ten-more ts l i e = pick_yes (eqb (get_or ts i no_terms).kind 2) _ _ (eq-eqb _ 2 e)
+
+ten-other : (ts : List Terms) (l : List ℕ) (i : ℕ) → ((get_or ts i no_terms).kind ≡ 2 → ⊥) → ten_year ts (i ∷ l) ≡ ten_year ts l
+ten-other ts l i e = pick_no (eqb (get_or ts i no_terms).kind 2) _ _ (ne_eqb _ 2 e)
 
 -- ---- the choice
 
@@ -92,19 +104,19 @@ no-entry : (a : List ℕ) → length a ≡ 0 → a ≡ []
 no-entry [] e = refl
 no-entry (x ∷ xs) e = absurd (omega arith)
 
-module _ (ts : List Terms) (l : List ℕ) {ten any : Fifth} (t : FifthOf (ten_year ts l) ten) (a : FifthOf l any) where
-  pub chosen-ten : 0 < ten.met → ten.issue ≡ fifth_among ts l
-  chosen-ten s = rw (or_else_some (ten_year ts l) l (omega (arith, t.met))) t.issue
+-- the issue that a walk found
+abbrev pub found : Option Fifth → ℕ
+found None = 0
+found (Some f) = f.issue
 
-  pub chosen-any : ten.met ≤ 0 → any.issue ≡ fifth_among ts l
-  chosen-any s = rw (no-entry (ten_year ts l) (omega (arith, t.met))) a.issue
+chosen : (ts : List Terms) (l : List ℕ) (ten any : Option Fifth) → FifthOf (ten_year ts l) ten → FifthOf l any → found (option_or ten any) ≡ fifth_among ts l
+chosen ts l None None t a = rw (no-entry (ten_year ts l) (omega (arith, t.met_is))) a.issue_is
+chosen ts l None (Some any) t a = rw (no-entry (ten_year ts l) (omega (arith, t.met_is))) a.1.issue_is
+chosen ts l (Some ten) any t a = rw (or_else_some (ten_year ts l) l (omega (arith, t.0, t.1.met_is))) t.1.issue_is
 
-module _ (notified l : List ℕ) {b : Best} (h : BestOf (λ i. get_or notified i 0) l b) where
+module _ (notified l : List ℕ) {most issue : ℕ} (h : BestAt (λ i. get_or notified i 0) l most issue) where
   abbrev n : ℕ → ℕ
   n i = get_or notified i 0
-
-  abbrev most : ℕ
-  most = b.most.0
 
   -- "with the deliverer's most notified lots", as the rule tests it
   abbrev has-most : ℕ → Bool
@@ -124,11 +136,11 @@ module _ (notified l : List ℕ) {b : Best} (h : BestOf (λ i. get_or notified i
           rw (ne_eqb (n i) most d, all-stop (λ j. leb (n (get_or l j 0)) (n i)) (length l) f.place f.inside (lt-leb (n (get_or l f.place 0)) (n i) (omega (arith, f.there))))
           (and_no (ltb 0 (n i)))
 
-  some-notified : 0 < most → (m : List ℕ) → get_or (or_else (most_notified notified l) m) 0 0 ≡ b.issue
+  some-notified : 0 < most → (m : List ℕ) → get_or (or_else (most_notified notified l) m) 0 0 ≡ issue
   unfolding most_notified
   some-notified s m =
       let f = h.some s in
-      let e : keep has-most l ≡ b.issue ∷ f.rest =
+      let e : keep has-most l ≡ issue ∷ f.rest =
       keep-cong has-most (λ i. eqb (n i) most) l (every_map (λ i. n i ≤ most) (λ i. has-most i ≡ eqb (n i) most) (has-most-is s) l h.all) ∙ f.first in
       rw e
 
@@ -137,14 +149,14 @@ module _ (notified l : List ℕ) {b : Best} (h : BestOf (λ i. get_or notified i
   none-notified none =
       keep-none has-most l (every_map (λ i. n i ≤ most) (λ i. has-most i ≡ false) (λ i k. stop _ _ (le-ltb 0 (n i) (omega arith))) l h.all)
 
-module _ (k : ℕ) (ts : List Terms) (notified : List ℕ) {b : Best} (h : BestOf (λ i. get_or notified i 0) (eligible k ts) b) where
-  pub forced-best : 0 < b.most.0 → b.issue ≡ forced_issue k ts notified
+module _ (k : ℕ) (ts : List Terms) (notified : List ℕ) where
+  pub forced-best : {b : Best} → BestOf (λ i. get_or notified i 0) (eligible k ts) (Some b) → b.issue ≡ forced_issue k ts notified
   unfolding forced_issue
-  forced-best s = sym (some-notified notified (eligible k ts) h s _)
+  forced-best h = sym (some-notified notified (eligible k ts) h.1 h.0 _)
 
-  pub forced-fifth : {r : ℕ} → b.most.0 ≤ 0 → r ≡ fifth_among ts (eligible k ts) → r ≡ forced_issue k ts notified
+  pub forced-fifth : {r : ℕ} → BestOf (λ i. get_or notified i 0) (eligible k ts) None → r ≡ fifth_among ts (eligible k ts) → r ≡ forced_issue k ts notified
   unfolding forced_issue
-  forced-fifth none e = rw (none-notified notified (eligible k ts) h none) e
+  forced-fifth h e = rw (none-notified notified (eligible k ts) h (le_refl 0)) e
 
 -- ---- down the issues
 
@@ -156,12 +168,10 @@ module _ (k : ℕ) (ts : List Terms) (issues : ℕ) where
   lower-none : lower k ts issues issues ≡ []
   lower-none = let z : issues - issues ≡ 0 = omega arith in rw z
 
-  lower-more : {i : ℕ} → 0 < i → i ≤ issues
-      → lower k ts issues (i - 1) ≡ pick (is_eligible k ts (i - 1)) ((i - 1) ∷ lower k ts issues i) (lower k ts issues i)
-  lower-more {i} some h =
-      let z : issues - (i - 1) ≡ suc (issues - i) = omega arith in
-      let w : suc (i - 1) ≡ i = omega arith in
-      rw (z, w)
+  lower-more : {i j : ℕ} → suc j ≡ i → j < issues → lower k ts issues j ≡ pick (is_eligible k ts j) (j ∷ lower k ts issues i) (lower k ts issues i)
+  lower-more {i} {j} e h =
+      let z : issues - j ≡ suc (issues - i) = omega arith in
+      rw (z, e)
 
   lower-all : {i : ℕ} → length ts ≡ issues → i ≤ 0 → lower k ts issues i ≡ eligible k ts
   unfolding eligible
@@ -175,76 +185,73 @@ module _ (issues : ℕ) (terms : List ℕ) where
   ts = terms_in issues terms
 
   -- what the call says of issue i
-  pub eligible-at : {k i : ℕ} {kinds : List ℕ} {r : Bool} → i < issues → KindsOf k kinds
-      → ((k : ℕ) → (t : Terms) → KindsOf k kinds → t.kind ≡ get_or terms (6 * i) 0 → t.redeemed ≡ get_or terms (6 * i + 4) 0 → t.interest ≡ get_or terms (6 * i + 5) 0
-      → r ≡ (within k t && unmarked t)) → r ≡ is_eligible k ts i
+  abbrev Said : List ℕ → ℕ → Bool → Type 0
+  Said kinds i r = (k : ℕ) → (t : Terms) → KindsOf k kinds → t.kind ≡ get_or terms (6 * i) 0 → t.redeemed ≡ get_or terms (6 * i + 4) 0
+      → t.interest ≡ get_or terms (6 * i + 5) 0 → r ≡ (within k t && unmarked t)
+
+  pub eligible-at : {k i : ℕ} {kinds : List ℕ} {r : Bool} → i < issues → KindsOf k kinds → Said kinds i r → r ≡ is_eligible k ts i
   eligible-at {k} {i} h q e = e k (get_or ts i no_terms) q (kind_at issues terms i h) (redeemed-at issues terms i h) (interest-at issues terms i h)
 
-  module _ (kinds notified : List ℕ) where
+  module _ (kinds : List ℕ) where
     -- the best among the issues from i on
-    pub record BestDown (i : ℕ) (b : Best) : Type 0 where
-      pub at : i ≤ issues
-      pub best : (k : ℕ) → KindsOf k kinds → BestOf (λ j. get_or (take issues notified) j 0) (lower k ts issues i) b
+    pub record BestDown (notified : List ℕ) (i : ℕ) (b : Option Best) : Type 0 where
+      pub best : (k : ℕ) → KindsOf k kinds → BestOf (noted notified) (lower k ts issues i) b
 
-    pub best_none : {b : Best} → b.most.0 ≡ 0 → BestDown issues b
-    best_none e = record { at = le_refl issues; best = λ k q. rw (lower-none k ts issues) (record { all = tt; some = λ s. absurd (omega arith) }) }
+    pub best-none : {notified : List ℕ} → BestDown notified issues None
+    best-none = record { best = λ k q. rw (lower-none k ts issues) (record { all = tt; some = λ s. absurd (omega arith) }) }
 
-    pub best-more : {i : ℕ} {b r : Best} → 0 < i → BestDown i b
-        → ((issues' k : ℕ) (n : ℕ → ℕ) (l : List ℕ) → i - 1 < issues' → KindsOf k kinds → get_or notified (i - 1) 0 ≡ n (i - 1) → BestOf n l b
-        → BestOf n (pick (is_eligible k (terms_in issues' terms) (i - 1)) ((i - 1) ∷ l) l) r) → BestDown (i - 1) r
-    best-more {i} some d f = record {
-      at = omega (arith, d.at);
-      best = λ k q. rw (lower-more k ts issues some d.at)
-          (f issues k (λ j. get_or (take issues notified) j 0) (lower k ts issues i) (omega (arith, d.at)) q
-          (sym (get_or-take issues notified (i - 1) 0 (omega (arith, d.at)))) (d.best k q));
+    pub best-more : {notified : List ℕ} {i j : ℕ} {b r : Option Best} → suc j ≡ i → j < issues → BestDown notified i b
+        → ((issues' k : ℕ) (n : ℕ → ℕ) (l : List ℕ) → j < issues' → KindsOf k kinds → get_or notified j 0 ≡ n j → BestOf n l b
+        → BestOf n (pick (is_eligible k (terms_in issues' terms) j) (j ∷ l) l) r) → BestDown notified j r
+    best-more {notified} {i} {j} {b} {r} e h d f = record {
+      best = λ k q. subst (λ (l : List ℕ). BestOf (noted notified) l r) (sym (lower-more k ts issues e h)) (f issues k (noted notified) (lower k ts issues i) h q refl (d.best k q));
     }
 
-    pub best-all : {i : ℕ} {b : Best} → i ≤ 0 → BestDown i b
-        → (k : ℕ) → KindsOf k kinds → BestOf (λ j. get_or (take issues notified) j 0) (eligible k ts) b
-    best-all h d k q = rw (lower-all k ts issues (terms-length issues terms) h) at (d.best k q)
+    pub best-all : {notified : List ℕ} {i : ℕ} {b : Option Best} → i ≤ 0 → BestDown notified i b → (k : ℕ) → KindsOf k kinds → BestOf (noted notified) (eligible k ts) b
+    best-all {notified} {i} {b} h d k q = subst (λ (l : List ℕ). BestOf (noted notified) l b) (lower-all k ts issues (terms-length issues terms) h) (d.best k q)
 
-  module _ (kinds : List ℕ) where
     -- the fifth largest of kind 2, and of all, among the issues from i on
-    pub record FifthDown (i : ℕ) (ten any : Fifth) : Type 0 where
-      pub at : i ≤ issues
+    pub record FifthDown (i : ℕ) (ten any : Option Fifth) : Type 0 where
       pub ten_of : (k : ℕ) → KindsOf k kinds → FifthOf (ten_year ts (lower k ts issues i)) ten
       pub any_of : (k : ℕ) → KindsOf k kinds → FifthOf (lower k ts issues i) any
 
-    pub fifth-none : {ten any : Fifth} → ten.met ≡ 0 → ten.issue ≡ 0 → any.met ≡ 0 → any.issue ≡ 0 → FifthDown issues ten any
-    fifth-none t u a v = record {
-      at = le_refl issues;
-      ten_of = λ k q. rw (lower-none k ts issues) (record { met = t; issue = u });
-      any_of = λ k q. rw (lower-none k ts issues) (record { met = a; issue = v });
+    pub fifth-none : FifthDown issues None None
+    fifth-none = record {
+      ten_of = λ k q. rw (lower-none k ts issues) (record { met_is = refl; issue_is = refl });
+      any_of = λ k q. rw (lower-none k ts issues) (record { met_is = refl; issue_is = refl });
     }
 
-    module _ {i : ℕ} (some : 0 < i) {ten any : Fifth} (d : FifthDown i ten any) {r : Bool}
-        (e : (k : ℕ) → (t : Terms) → KindsOf k kinds → t.kind ≡ get_or terms (6 * (i - 1)) 0 → t.redeemed ≡ get_or terms (6 * (i - 1) + 4) 0
-        → t.interest ≡ get_or terms (6 * (i - 1) + 5) 0 → r ≡ (within k t && unmarked t)) where
-      below : i - 1 < issues
-      below = omega (arith, d.at)
+    module _ {i j : ℕ} (next : suc j ≡ i) (h : j < issues) {ten any : Option Fifth} (d : FifthDown i ten any) {r : Bool} (e : Said kinds j r) where
+      more : r ≡ true → (k : ℕ) → KindsOf k kinds → j ∷ lower k ts issues i ≡ lower k ts issues j
+      more y k q = sym (lower-more k ts issues next h ∙ pick_yes (is_eligible k ts j) _ _ (sym (eligible-at h q e) ∙ y))
 
-      pub fifth-met : {ten' any' : Fifth} → r ≡ true
-          → ((l : List ℕ) → FifthOf l ten → FifthOf (pick (eqb (get_or terms (6 * (i - 1)) 0) 2) ((i - 1) ∷ l) l) ten')
-          → ((l : List ℕ) → FifthOf l any → FifthOf ((i - 1) ∷ l) any') → FifthDown (i - 1) ten' any'
-      fifth-met y f g = record {
-        at = omega (arith, d.at);
-        ten_of = λ k q. rw (lower-more k ts issues some d.at, sym (eligible-at below q e) ∙ y)
-            (ten-more ts (lower k ts issues i) (i - 1) _ (kind_at issues terms (i - 1) below) (f _ (d.ten_of k q)));
-        any_of = λ k q. rw (lower-more k ts issues some d.at, sym (eligible-at below q e) ∙ y) (g _ (d.any_of k q));
+      same : r ≡ false → (k : ℕ) → KindsOf k kinds → lower k ts issues i ≡ lower k ts issues j
+      same y k q = sym (lower-more k ts issues next h ∙ pick_no (is_eligible k ts j) _ _ (sym (eligible-at h q e) ∙ y))
+
+      -- an unmarked issue of the basket, of kind 2 or another
+      pub fifth-ten : {ten' any' : Option Fifth} → r ≡ true → get_or terms (6 * j) 0 ≡ 2 → ((l : List ℕ) → FifthOf l ten → FifthOf (j ∷ l) ten')
+          → ((l : List ℕ) → FifthOf l any → FifthOf (j ∷ l) any') → FifthDown j ten' any'
+      fifth-ten {ten'} {any'} y kind f g = record {
+        ten_of = λ k q. subst (λ (l : List ℕ). FifthOf l ten') (sym (ten-more ts (lower k ts issues i) j (kind_at issues terms j h ∙ kind)) ∙ ap (ten_year ts) (more y k q)) (f _ (d.ten_of k q));
+        any_of = λ k q. subst (λ (l : List ℕ). FifthOf l any') (more y k q) (g _ (d.any_of k q));
       }
 
-      pub fifth-passed : r ≡ false → FifthDown (i - 1) ten any
+      pub fifth-other : {any' : Option Fifth} → r ≡ true → (get_or terms (6 * j) 0 ≡ 2 → ⊥) → ((l : List ℕ) → FifthOf l any → FifthOf (j ∷ l) any') → FifthDown j ten any'
+      fifth-other {any'} y kind g = record {
+        ten_of = λ k q. subst (λ (l : List ℕ). FifthOf l ten) (sym (ten-other ts (lower k ts issues i) j (λ x. kind (sym (kind_at issues terms j h) ∙ x))) ∙ ap (ten_year ts) (more y k q)) (d.ten_of k q);
+        any_of = λ k q. subst (λ (l : List ℕ). FifthOf l any') (more y k q) (g _ (d.any_of k q));
+      }
+
+      pub fifth-passed : r ≡ false → FifthDown j ten any
       fifth-passed y = record {
-        at = omega (arith, d.at);
-        ten_of = λ k q. rw (lower-more k ts issues some d.at, sym (eligible-at below q e) ∙ y) (d.ten_of k q);
-        any_of = λ k q. rw (lower-more k ts issues some d.at, sym (eligible-at below q e) ∙ y) (d.any_of k q);
+        ten_of = λ k q. subst (λ (l : List ℕ). FifthOf (ten_year ts l) ten) (same y k q) (d.ten_of k q);
+        any_of = λ k q. subst (λ (l : List ℕ). FifthOf l any) (same y k q) (d.any_of k q);
       }
 
-    pub fifth-all : {i r : ℕ} {ten any : Fifth} → i ≤ 0 → FifthDown i ten any
-        → ((ts : List Terms) (l : List ℕ) → FifthOf (ten_year ts l) ten → FifthOf l any → r ≡ fifth_among ts l)
-        → (k : ℕ) → KindsOf k kinds → r ≡ fifth_among ts (eligible k ts)
-    fifth-all {i} h d f k q =
-        rw (lower-all k ts issues (terms-length issues terms) h) at (f ts (lower k ts issues i) (d.ten_of k q) (d.any_of k q))
+    pub fifth-all : {i : ℕ} {ten any : Option Fifth} → i ≤ 0 → FifthDown i ten any → (k : ℕ) → KindsOf k kinds → found (option_or ten any) ≡ fifth_among ts (eligible k ts)
+    fifth-all {i} {ten} {any} h d k q =
+        let e = lower-all k ts issues (terms-length issues terms) h in
+        chosen ts (eligible k ts) ten any (subst (λ (l : List ℕ). FifthOf (ten_year ts l) ten) e (d.ten_of k q)) (subst (λ (l : List ℕ). FifthOf l any) e (d.any_of k q))
 
 -- ---- the forced issue is one of the day's
 

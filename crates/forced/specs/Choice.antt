@@ -1,5 +1,5 @@
 -- The forced issue, chosen on the way down the issues: what is known of those met so far. Assumes nothing.
-use Rattle.std.specs.Prelude.{◌≡◌, Bool, ◌&&◌, List, ◌∷◌, ℕ, ◌+◌, ◌*◌, ◌≤◌, ◌<◌, min, length, get_or, eqb}
+use Rattle.std.specs.Prelude.{◌≡◌, Bool, ◌&&◌, List, ◌∷◌, ℕ, ◌+◌, ◌*◌, ◌≤◌, ◌<◌, min, length, get_or, eqb, Option, Some, None}
 use Rattle.lists.specs.Folds.{keep, Every}
 use Rattle.rule.specs.Value.{Terms, no_terms}
 use Rattle.rule.specs.Baskets.{within}
@@ -17,10 +17,9 @@ pub record Listed (issues : ℕ) (terms : List ℕ) : Type 0 where
   pub issues_most : issues ≤ 32
   pub cells : 6 * issues ≤ length terms
 
--- and notified lots of each of them
-pub record Notified (issues : ℕ) (terms notified : List ℕ) : Type 0 where
-  pub listed : Listed issues terms
-  pub notified_there : issues ≤ length notified
+-- the notified lots of an issue
+abbrev pub noted : List ℕ → ℕ → ℕ
+noted notified i = get_or notified i 0
 
 -- an unmarked issue of basket k
 abbrev pub is_eligible : ℕ → List Terms → ℕ → Bool
@@ -43,10 +42,25 @@ pub record FirstOf (n : ℕ → ℕ) (l : List ℕ) (most issue : ℕ) : Type 0 
   pub first : keep (λ j. eqb (n j) most) l ≡ issue ∷ rest
 
 -- no issue has more, and if any has some, it is the first that has the most
-pub record BestOf (n : ℕ → ℕ) (l : List ℕ) (b : Best) : Type 0 where
-  pub all : Every (λ j. n j ≤ b.most.0) l
-  pub some : 0 < b.most.0 → FirstOf n l b.most.0 b.issue
+pub record BestAt (n : ℕ → ℕ) (l : List ℕ) (most issue : ℕ) : Type 0 where
+  pub all : Every (λ j. n j ≤ most) l
+  pub some : 0 < most → FirstOf n l most issue
 
-pub record FifthOf (l : List ℕ) (f : Fifth) : Type 0 where
-  pub met : f.met ≡ min 5 (length l)
-  pub issue : f.issue ≡ fifth_largest l
+-- the best has some lots; with none, no issue has any
+abbrev pub BestOf : (ℕ → ℕ) → List ℕ → Option Best → Type 0
+BestOf n l None = BestAt n l 0 0
+BestOf n l (Some b) = (0 < b.most.0) × BestAt n l b.most.0 b.issue
+
+-- the lots that make an issue the best
+abbrev pub least_of : Option Best → ℕ
+least_of None = 1
+least_of (Some b) = b.most.0
+
+pub record FifthAt (l : List ℕ) (met issue : ℕ) : Type 0 where
+  pub met_is : met ≡ min 5 (length l)
+  pub issue_is : issue ≡ fifth_largest l
+
+-- none where none was met
+abbrev pub FifthOf : List ℕ → Option Fifth → Type 0
+FifthOf l None = FifthAt l 0 0
+FifthOf l (Some f) = (0 < f.met) × FifthAt l f.met f.issue

@@ -1,22 +1,21 @@
 -- An issue's turn: the code's numbers, by what its calls ensure of them, are the rule's. No closed form of the value is used here but
 -- to say that two issues of one rate have one value. Assumes nothing.
-use mathlib.Core.Path.{◌≡◌, refl, sym, ap, ◌∙◌}
-use Prim.Native.Nat.{ℕ, ◌+◌, ◌-◌, ◌*◌, ◌/◌, ◌%◌, ◌≤◌, ◌<◌, min, max}
-use mathlib.Core.Bool.{true}
-use lib.Dec.{eqb}
-use borrow.Author.Tests.{eq-eqb, ne_eqb}
-use Rattle.lists.proofs.TestLaws.{both_ways, pick_yes, pick_no}
+use mathlib.Core.Path.{◌≡◌, sym, ap}
+use Prim.Native.Nat.{ℕ, ◌+◌, ◌-◌, ◌*◌, ◌/◌, ◌≤◌, ◌<◌, min, max}
 use native.Mathlib.Nat.{le_refl}
 use native.Mathlib.Decide.{dec_le}
 use native.Mathlib.Omega.{arith}
 use Rattle.rule.specs.Value.{Terms, value, fewest, most}
 use Rattle.rule.specs.Filling.{unit, target}
 use Rattle.rule.proofs.ValueLaws.{value-zero, value-lot, fewest-reaches, fewest-least, most-keeps, most-greatest}
-use Rattle.value.specs.Rate.{Valuable, Payable}
+use Rattle.value.specs.Rate.{rate, Valuable, Payable}
 use Rattle.value.proofs.RateLaws.{rate_least, value-closed, value-most}
 use Rattle.value.specs.Rated.{Rated}
-use Rattle.turns.specs.Turns.{besides, Part, Addable, Short, Raising, Rounding, Turnable, Turned, Valued, Took, up_to, whole_units, bound_of, next_of}
+use Rattle.turns.specs.Turns.{besides, Part, Addable, Short, Raising, Rounding, Turned, Valued, up_to, whole_units}
+use Rattle.turns.specs.Passes.{bound_of, Turnable}
 use Rattle.turns.specs.declared.Turn.{Turn}
+use Rattle.turns.specs.declared.Pass.{Pass}
+use Rattle.turns.specs.declared.Pass.TheVariants.{Units, Remainders}
 
 -- what a call of `fewest` or `most` ensures for every price above 0, and one of `value` for every terms of the rate
 abbrev pub Ensured : ℕ → (Terms → ℕ) → ℕ → Type 0
@@ -26,83 +25,96 @@ module _ {t : Terms} {w : ℕ} (r : Rated t w) where
   pub some-price : 0 < t.price
   some-price = omega (arith, r.priced)
 
-  pub rate-low : 3_650_000 ≤ w
-  rate-low = omega (arith, rate_least t r.priced, r.rated)
+  -- for callers: where a match stands at the turn of an issue of these terms
+  pub part-of : {had reached : ℕ} → value t had ≤ reached → reached ≤ 10_000_000_000_000 → Part w had reached
+  part-of {had} h most = record {
+    rate_least = omega (arith, rate_least t r.priced, r.rated);
+    rate_most = r.most;
+    within = λ u e. omega (arith, value-closed t r.rated had, value-closed u e had);
+    reached_most = most;
+  }
 
-  pub one_value : {u : Terms} → Rated u w → (n : ℕ) → value t n ≡ value u n
-  one_value {u} q n = sym (value-closed t r.rated n) ∙ value-closed u q.rated n
+-- ---- some terms of a rate, which may have several
+
+abbrev pub terms-of : ℕ → Terms
+terms-of w = record { kind = 0; price = 1000; coupon = w - 3_650_000; days = 1; redeemed = 0; interest = 0 }
+
+rated-of : {w : ℕ} → 3_650_000 ≤ w → w ≤ 116_820_000 → Rated (terms-of w) w
+unfolding rate
+rated-of low high = record { priced = le_refl 1000; rated = omega arith; most = high }
 
 -- what is added fits
-pub part_small : {w others lots part : ℕ} → Addable w others lots → Ensured w (λ t. value t lots) part → part ≤ 1_600_273_972_602_739
-part_small {lots = lots} a e =
-    omega (arith, e a.terms a.rated, value-most a.terms {n = lots} (rw a.rated.rated at a.valuable))
+pub part_small : {w lots part : ℕ} → Valuable w lots → ((t : Terms) → w ≡ rate t → part ≡ value t lots) → part ≤ 1_600_273_972_602_739
+unfolding rate
+part_small {w} {lots} v e =
+    let t : Terms = record { kind = 0; price = 0; coupon = w; days = 1; redeemed = 0; interest = 0 } in
+    let q : w ≡ rate t = omega arith in
+    omega (arith, e t q, value-most t {n = lots} (rw q at v))
 
 -- the match has no lot of the issue
 pub besides-none : (t : Terms) {had : ℕ} (reached : ℕ) → had ≡ 0 → reached ≡ besides t had reached
 besides-none t reached e = omega (arith, value-zero t, ap (value t) e)
 
-pub alone : (w reached : ℕ) → Ensured w (λ t. besides t 0 reached) reached
-alone w reached t q = besides-none t reached refl
+alone : (w : ℕ) {had : ℕ} (reached : ℕ) → had ≡ 0 → Ensured w (λ t. besides t had reached) reached
+alone w reached e t q = besides-none t reached e
 
-module _ {w had reached : ℕ} (p : Part w had reached) where
+module _ {w had reached : ℕ} (s : Part w had reached) where
+  pub some-terms : Rated (terms-of w) w
+  some-terms = rated-of s.rate_least s.rate_most
+
   pub had-valuable : Valuable w had
   had-valuable = record {
-    rate_most = p.rated.most;
-    lots_most = omega (arith, value-lot p.terms p.rated.priced had, p.within, p.reached_most);
+    rate_most = s.rate_most;
+    lots_most = omega (arith, value-lot (terms-of w) some-terms.priced had, s.within (terms-of w) some-terms.rated, s.reached_most);
   }
 
-  pub part-within : {t : Terms} → Rated t w → value t had ≤ reached
-  part-within r = omega (arith, one_value r p.rated had, p.within)
-
-  -- nothing is taken
-  pub idle : {t : Terms} {n : ℕ} {r : Turn} → Rated t w → n ≡ had → r.lots.0 ≡ had → r.reached.0 ≡ reached → Took t had reached n r
-  idle {t} {n} q e l v =
-      record { turned = record { lots = l ∙ sym e; worth = omega (arith, part-within q, ap (value t) e) }; still = λ none. e }
-
--- lots were taken
-taking : {t : Terms} {had reached n : ℕ} {r : Turn} → r.taken ≡ true → Turned t (besides t had reached) n r → Took t had reached n r
-taking {r = r} some a = record { turned = a; still = λ none. both_ways r.taken some none }
+  -- what the issue is worth, in the match
+  pub part-there : {part : ℕ} → ((t : Terms) → w ≡ rate t → part ≡ value t had) → part ≤ reached
+  part-there e = omega (arith, e (terms-of w) some-terms.rated, s.within (terms-of w) some-terms.rated)
 
 -- ---- all up to a bound, or the fewest that reach the amount
 
-module _ {w had bound reached amount : ℕ} (p : Raising w had bound reached amount) where
-  pub up_none : (t : Terms) → bound ≤ had → up_to t bound had reached amount ≡ had
-  unfolding up_to
-  up_none t h = omega (arith, p.bounded)
+-- the match has that much
+pub up_none : {had bound reached amount : ℕ} → Raising had bound reached amount → (t : Terms) → bound ≤ had → up_to t bound had reached amount ≡ had
+unfolding up_to
+up_none p t h = omega (arith, p.bounded)
 
-  module _ {rest : ℕ} (o : Ensured w (λ t. besides t had reached) rest) where
-    pub rest_below : rest < amount
-    rest_below = omega (arith, o p.part.terms p.part.rated, p.below)
+-- what is short, beside the others
+module _ {w had reached amount : ℕ} (s : Part w had reached) (p : Short reached amount) {rest : ℕ} (o : Ensured w (λ t. besides t had reached) rest) where
+  pub rest_below : rest < amount
+  rest_below = omega (arith, o (terms-of w) (some-terms s), p.below)
 
+  pub payable : Payable w (amount - rest)
+  payable = record { rate_least = s.rate_least; rate_most = s.rate_most; yen_most = omega (arith, p.amount_most) }
+
+  -- the fewest lots that reach are no fewer than the match has
+  pub more : {t : Terms} → Rated t w → had ≤ fewest t (amount - rest)
+  more {t} q = go (dec_le had (fewest t (amount - rest)))
+    where
+      go : Dec (had ≤ fewest t (amount - rest)) → had ≤ fewest t (amount - rest)
+      go (yes h) = h
+      go (no h) = absurd (omega (arith, fewest-reaches t (some-price q) (amount - rest) {n = had} (omega arith), o t q, s.within t q.rated, p.below))
+
+  pub further : {n : ℕ} → ((t : Terms) → 0 < t.price → w ≡ rate t → n ≡ fewest t (amount - rest)) → had ≤ n
+  further e = omega (arith, more (some-terms s), e (terms-of w) (some-price (some-terms s)) (some-terms s).rated)
+
+  module _ {bound : ℕ} (r : Raising had bound reached amount) where
     pub bound-addable : Addable w rest bound
     bound-addable = record {
-      terms = p.part.terms;
-      rated = p.part.rated;
-      valuable = record { rate_most = p.part.rated.most; lots_most = p.bound_most };
+      valuable = record { rate_most = s.rate_most; lots_most = r.bound_most };
       others_most = omega (arith, rest_below, p.amount_most);
     }
 
     -- all of it stays below the amount
-    pub up-all : {t : Terms} {r : Turn} → Rated t w → Valued w rest bound r → r.reached.0 < amount → Took t had reached (up_to t bound had reached amount) r
+    pub up-all : {t : Terms} {x : Turn} → Rated t w → Valued w rest bound x → x.reached.0 < amount → Turned t (besides t had reached) (up_to t bound had reached amount) x
     unfolding up_to
-    up-all {t} {r} q a low = go (dec_le (fewest t (amount - besides t had reached)) bound)
+    up-all {t} {x} q a low = go (dec_le (fewest t (amount - besides t had reached)) bound)
       where
-        go : Dec (fewest t (amount - besides t had reached) ≤ bound) → Took t had reached (min bound (max had (fewest t (amount - besides t had reached)))) r
-        go (yes h) = absurd (omega (arith, fewest-reaches t (some-price q) (amount - besides t had reached) h, o t q, (a.turned t q).worth))
+        go : Dec (fewest t (amount - besides t had reached) ≤ bound) → Turned t (besides t had reached) (min bound (max had (fewest t (amount - besides t had reached)))) x
+        go (yes h) = absurd (omega (arith, fewest-reaches t (some-price q) (amount - besides t had reached) h, o t q, (a t q).worth))
         go (no h) =
-            let e : min bound (max had (fewest t (amount - besides t had reached))) ≡ bound = omega arith in
-            taking a.taken (rw (e, ← o t q) (a.turned t q))
-
-    pub payable : Payable w (amount - rest)
-    payable = record { rate_least = rate-low p.part.rated; rate_most = p.part.rated.most; yen_most = omega (arith, p.amount_most) }
-
-    -- the fewest lots that reach are no fewer than the match has
-    pub more : {t : Terms} → Rated t w → had ≤ fewest t (amount - rest)
-    more {t} q = go (dec_le had (fewest t (amount - rest)))
-      where
-        go : Dec (had ≤ fewest t (amount - rest)) → had ≤ fewest t (amount - rest)
-        go (yes h) = h
-        go (no h) = absurd (omega (arith, fewest-reaches t (some-price q) (amount - rest) {n = had} (omega arith), o t q, part-within p.part q, p.below))
+            let e : min bound (max had (fewest t (amount - besides t had reached))) ≡ bound = omega (arith, r.bounded) in
+            rw (e, ← o t q) (a t q)
 
     -- not all of it is needed
     module _ {t : Terms} (q : Rated t w) (enough : amount ≤ rest + value t bound) where
@@ -111,158 +123,107 @@ module _ {w had bound reached amount : ℕ} (p : Raising w had bound reached amo
 
       pub few-addable : {n : ℕ} → n ≡ fewest t (amount - rest) → Addable w rest n
       few-addable e = record {
-        terms = t;
-        rated = q;
-        valuable = record { rate_most = q.most; lots_most = omega (arith, few, p.bound_most) };
+        valuable = record { rate_most = q.most; lots_most = omega (arith, few, r.bound_most) };
         others_most = omega (arith, rest_below, p.amount_most);
       }
 
-      pub up-few : {n : ℕ} {r : Turn} → n ≡ fewest t (amount - rest) → Valued w rest n r → Took t had reached (up_to t bound had reached amount) r
+      pub up-few : {n : ℕ} {x : Turn} → n ≡ fewest t (amount - rest) → Valued w rest n x → Turned t (besides t had reached) (up_to t bound had reached amount) x
       unfolding up_to
       up-few {n} e a =
           let d : min bound (max had (fewest t (amount - rest))) ≡ n = omega (arith, few, more q) in
-          taking a.taken (rw (← o t q, d) (a.turned t q))
-
--- all that the match may have is taken, and does not reach
-pub short-raising : {w had reached amount : ℕ} → Short w had reached amount → Raising w had had reached amount
-short-raising p = record {
-  part = p.part;
-  bounded = le_refl _;
-  bound_most = (had-valuable p.part).lots_most;
-  below = p.below;
-  amount_most = p.amount_most;
-}
+          rw (← o t q, d) (a t q)
 
 -- ---- whole units within the target
 
-module _ {w had usable reached goal : ℕ} (p : Rounding w had usable reached goal) where
-  -- what the match has stays within the target
-  had-keeps : {t : Terms} → Rated t w → had ≤ most t (goal - besides t had reached)
-  had-keeps {t} q = most-greatest t (some-price q) (goal - besides t had reached) {n = had} (omega (arith, part-within p.part q, p.kept))
+-- no whole unit may be used
+pub units-none : {had usable reached goal : ℕ} → Rounding had usable reached goal → (t : Terms) → usable < unit → whole_units t usable had reached goal ≡ had
+unfolding whole_units
+units-none {usable = usable} p t h =
+    let e : usable / unit ≡ 0 = omega arith in
+    rw e (omega (arith, p.none))
 
-  pub units-none : {t : Terms} → Rated t w → usable / unit * unit ≤ had → whole_units t usable had reached goal ≡ had
-  unfolding whole_units
-  units-none q h = omega (arith, had-keeps q, p.bounded)
+module _ {w had usable reached goal : ℕ} (s : Part w had reached) (p : Rounding had usable reached goal) where
+  -- the match has no lot of the issue: all of it are others
+  abbrev o : Ensured w (λ t. besides t had reached) reached
+  o = alone w reached p.none
 
-  module _ {rest : ℕ} (o : Ensured w (λ t. besides t had reached) rest) where
-    rest-kept : rest ≤ goal
-    rest-kept = omega (arith, o p.part.terms p.part.rated, p.kept)
+  addable : {n : ℕ} → n ≤ 200_100_000 → Addable w reached n
+  addable h = record {
+    valuable = record { rate_most = s.rate_most; lots_most = omega arith };
+    others_most = omega (arith, p.kept, p.goal_most);
+  }
 
-    addable : {n : ℕ} → n ≤ 200_100_000 → Addable w rest n
-    addable h = record {
-      terms = p.part.terms;
-      rated = p.part.rated;
-      valuable = record { rate_most = p.part.rated.most; lots_most = omega arith };
-      others_most = omega (arith, rest-kept, p.goal_most);
-    }
+  pub whole-addable : {n : ℕ} → n ≡ usable / unit * unit → Addable w reached n
+  whole-addable e = addable (omega (arith, p.usable_most))
 
-    pub whole-addable : {n : ℕ} → n ≡ usable / unit * unit → Addable w rest n
-    whole-addable e = addable (omega (arith, p.usable_most))
+  pub room-payable : Payable w (goal - reached)
+  room-payable = record { rate_least = s.rate_least; rate_most = s.rate_most; yen_most = omega (arith, p.goal_most) }
 
-    pub room-payable : Payable w (goal - rest)
-    room-payable = record { rate_least = rate-low p.part.rated; rate_most = p.part.rated.most; yen_most = omega (arith, p.goal_most) }
+  module _ {t : Terms} (q : Rated t w) where
+    -- n lots beside the others stay within the target, or do not
+    within : {n : ℕ} → reached + value t n ≤ goal → n ≤ most t (goal - reached)
+    within {n} h = most-greatest t (some-price q) (goal - reached) {n = n} (omega arith)
 
-    module _ {t : Terms} (q : Rated t w) where
-      -- n lots beside the rest stay within the target, or do not
-      within : {n : ℕ} → rest + value t n ≤ goal → n ≤ most t (goal - rest)
-      within {n} h = most-greatest t (some-price q) (goal - rest) {n = n} (omega arith)
+    past : {n : ℕ} → goal < reached + value t n → most t (goal - reached) < n
+    past {n} h = go (dec_le n (most t (goal - reached)))
+      where
+        go : Dec (n ≤ most t (goal - reached)) → most t (goal - reached) < n
+        go (yes k) = absurd (omega (arith, most-keeps t (some-price q) (goal - reached) k, p.kept))
+        go (no k) = omega arith
 
-      past : {n : ℕ} → goal < rest + value t n → most t (goal - rest) < n
-      past {n} h = go (dec_le n (most t (goal - rest)))
-        where
-          go : Dec (n ≤ most t (goal - rest)) → most t (goal - rest) < n
-          go (yes k) = absurd (omega (arith, most-keeps t (some-price q) (goal - rest) k, rest-kept))
-          go (no k) = omega arith
+    pub units-all : {n : ℕ} {x : Turn} → n ≡ usable / unit * unit → Valued w reached n x → x.reached.0 ≤ goal
+        → Turned t (besides t had reached) (whole_units t usable had reached goal) x
+    unfolding whole_units
+    units-all {n} e a low =
+        let d : min (usable / unit) (most t (goal - reached) / unit) * unit ≡ n = omega (arith, within {n = n} (omega (arith, (a t q).worth))) in
+        rw (← o t q, d) (a t q)
 
-      pub units-all : {n : ℕ} {r : Turn} → n ≡ usable / unit * unit → Valued w rest n r → r.reached.0 ≤ goal → Took t had reached (whole_units t usable had reached goal) r
+    -- not one unit stays within it
+    pub units-one : goal < reached + value t unit → whole_units t usable had reached goal ≡ had
+    unfolding whole_units
+    units-one h =
+        let d : min (usable / unit) (most t (goal - reached) / unit) * unit ≡ 0 = omega (arith, past {n = unit} h) in
+        rw (← o t q, d) (sym p.none)
+
+    module _ (some : goal < reached + value t (usable / unit * unit)) {n : ℕ} (e : n ≡ most t (goal - reached)) where
+      pub most-addable : Addable w reached (n / unit * unit)
+      most-addable = addable (omega (arith, past {n = usable / unit * unit} some, p.usable_most))
+
+      pub units-most : {x : Turn} → Valued w reached (n / unit * unit) x → Turned t (besides t had reached) (whole_units t usable had reached goal) x
       unfolding whole_units
-      units-all {n} e a low =
-          let d : min (usable / unit) (most t (goal - rest) / unit) * unit ≡ n = omega (arith, within {n = n} (omega (arith, (a.turned t q).worth))) in
-          taking a.taken (rw (← o t q, d) (a.turned t q))
-
-      -- not one more unit stays within it
-      pub units-one : goal < rest + value t (had + unit) → whole_units t usable had reached goal ≡ had
-      unfolding whole_units
-      units-one h = omega (arith, had-keeps q, p.bounded, p.whole, o t q, ap (λ (v : ℕ). most t (goal - v)) (o t q), past {n = had + unit} h)
-
-      module _ (some : goal < rest + value t (usable / unit * unit)) {n : ℕ} (e : n ≡ most t (goal - rest)) where
-        pub most-addable : Addable w rest (n / unit * unit)
-        most-addable = addable (omega (arith, past {n = usable / unit * unit} some, p.usable_most))
-
-        pub units-most : {r : Turn} → Valued w rest (n / unit * unit) r → Took t had reached (whole_units t usable had reached goal) r
-        unfolding whole_units
-        units-most a =
-            let d : min (usable / unit) (most t (goal - rest) / unit) * unit ≡ n / unit * unit =
-            omega (arith, past {n = usable / unit * unit} some) in
-            taking a.taken (rw (← o t q, d) (a.turned t q))
+      units-most a =
+          let d : min (usable / unit) (most t (goal - reached) / unit) * unit ≡ n / unit * unit =
+          omega (arith, past {n = usable / unit * unit} some) in
+          rw (← o t q, d) (a t q)
 
 -- ---- a pass
 
-pub not_first : ◌≡◌ {A = ℕ} 2 1 → ⊥
-not_first e = omega arith
-
-module _ {pass : ℕ} (usable had : ℕ) where
-  pub bound-third : (pass ≡ 1 → ⊥) → (pass ≡ 2 → ⊥) → usable ≡ bound_of pass usable had
-  unfolding bound_of
-  bound-third n m = rw (ne_eqb pass 1 n, ne_eqb pass 2 m)
-
-  module _ (t : Terms) (reached amount : ℕ) where
-    next-first : pass ≡ 1 → next_of pass t usable had reached amount ≡ whole_units t usable had reached (target amount)
-    unfolding next_of
-    next-first e = pick_yes (eqb pass 1) _ _ (eq-eqb pass 1 e)
-
-    next-other : (pass ≡ 1 → ⊥) → next_of pass t usable had reached amount ≡ up_to t (bound_of pass usable had) had reached amount
-    unfolding next_of
-    next-other n = pick_no (eqb pass 1) _ _ (ne_eqb pass 1 n)
-
-module _ {pass w had usable reached amount : ℕ} (p : Turnable pass w had usable reached amount) where
-  pub rounding : pass ≡ 1 → Rounding w 0 usable reached (target amount)
+module _ {had usable reached amount : ℕ} where
+  pub rounding : Turnable Units had usable reached amount → Rounding had usable reached (target amount)
   unfolding target
-  rounding e = record {
-    part = rw (p.first e).none at p.part;
-    bounded = omega arith;
-    whole = omega arith;
+  rounding p = record {
+    none = p.fresh.0;
     usable_most = p.usable_most;
-    kept = (p.first e).kept;
-    goal_most = omega (arith, p.amount_most);
+    kept = p.fresh.1;
+    goal_most = omega (arith, p.short.amount_most);
   }
 
-  pub firstly : {t : Terms} {r : Turn} → pass ≡ 1 → Took t 0 reached (whole_units t usable 0 reached (target amount)) r
-      → Took t had reached (next_of pass t usable had reached amount) r
-  firstly {t} e a = rw (next-first usable had t reached amount e, (p.first e).none) a
+  pub raising : {pass : Pass} {bound : ℕ} → Turnable pass had usable reached amount → bound ≡ bound_of pass usable had → bound ≤ 10_000_000_000 → Raising had bound reached amount
+  raising p e h = record { short = p.short; bounded = rw e p.bounded; bound_most = h }
 
-  pub raising : {bound : ℕ} → bound ≡ bound_of pass usable had → bound ≤ 10_000_000_000 → Raising w had bound reached amount
-  raising e h = record {
-    part = p.part;
-    bounded = rw (← e) at p.bounded;
-    bound_most = h;
-    below = p.below;
-    amount_most = p.amount_most;
-  }
+  -- ---- the second pass
 
-  -- the match then has what a turn up to some bound gives, where that is all that the pass may have
-  pub later : {t : Terms} {bound : ℕ} {r : Turn} → (pass ≡ 1 → ⊥) → bound ≡ bound_of pass usable had → Took t had reached (up_to t bound had reached amount) r
-      → Took t had reached (next_of pass t usable had reached amount) r
-  later {t} n e a = rw (next-other usable had t reached amount n, ← e) a
+  module _ (p : Turnable Remainders had usable reached amount) where
+    -- no further unit is left
+    pub bound_all : usable - had < unit → usable ≡ bound_of Remainders usable had
+    bound_all h = omega (arith, p.fresh, p.within)
 
--- ---- the second pass
+    -- beside the whole units of what may be used there is its remainder
+    pub bound-remainder : {whole : ℕ} → whole ≡ usable / unit * unit → had + (usable - whole) ≡ bound_of Remainders usable had
+    bound-remainder e = omega (arith, p.fresh)
 
-module _ {w had usable reached amount : ℕ} (p : Turnable 2 w had usable reached amount) where
-  second-bound : bound_of 2 usable had ≡ had + usable % unit
-  unfolding bound_of
-  second-bound = ap (λ (n : ℕ). n + usable % unit) (p.second refl)
-
-  -- no further unit is left
-  pub bound_all : usable - had < unit → usable ≡ bound_of 2 usable had
-  bound_all h = omega (arith, second-bound, p.second refl, p.within)
-
-  -- beside the whole units of what may be used there is its remainder
-  pub bound-remainder : {whole : ℕ} → whole ≡ usable / unit * unit → had + (usable - whole) ≡ bound_of 2 usable had
-  bound-remainder e = omega (arith, second-bound)
-
-  -- which is none
-  pub remainder-none : {t : Terms} {whole : ℕ} {r : Turn} → whole ≡ usable / unit * unit → usable - whole ≡ 0 → Rated t w → r.lots.0 ≡ had → r.reached.0 ≡ reached
-      → Took t had reached (next_of 2 t usable had reached amount) r
-  remainder-none {t} e z q l v =
-      let b : had ≡ bound_of 2 usable had = omega (arith, bound-remainder e) in
-      later p not_first b (idle p.part q (up_none (raising p b (omega (arith, p.within, p.usable_most))) t (le_refl had)) l v)
+    -- which is none
+    pub remainder-none : {whole : ℕ} → whole ≡ usable / unit * unit → usable - whole ≡ 0 → (t : Terms) → up_to t (bound_of Remainders usable had) had reached amount ≡ had
+    remainder-none e z t =
+        let b : had ≡ bound_of Remainders usable had = omega (arith, bound-remainder e) in
+        rw (← b) (up_none (raising p b (omega (arith, p.within, p.usable_most))) t (le_refl had))

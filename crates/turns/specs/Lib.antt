@@ -1,2 +1,3 @@
 -- What the contracts of a turn cite besides the rule.
 pub mod Turns
+pub mod Passes

@@ -61,12 +61,12 @@ module _ (issues : ℕ) (terms : List ℕ) where
 -- the first i issues have their rates
 pub record RatesTo (issues : ℕ) (terms rates : List ℕ) (i : ℕ) : Type 0 where
   pub at : i ≤ issues
-  pub places : length rates ≡ 32
+  pub places : length rates ≡ issues
   pub each : (k : ℕ) → k < i → Rated (get_or (terms_in issues terms) k no_terms) (get_or rates k 0)
 
-module _ {issues : ℕ} {terms rates : List ℕ} (p : Termed issues terms rates) where
-  pub rates-none : RatesTo issues terms rates 0
-  rates-none = record { at = omega arith; places = p.places; each = λ k h. absurd (not-suc-le-zero h) }
+module _ {issues : ℕ} {terms : List ℕ} (p : Termed issues terms) where
+  pub rates-none : {rates : List ℕ} → length rates ≡ issues → RatesTo issues terms rates 0
+  rates-none places = record { at = omega arith; places = places; each = λ k h. absurd (not-suc-le-zero h) }
 
   module _ {i w : ℕ} (h : i < issues)
       (e : (t : Terms) → t.price ≡ get_or terms (6 * i + 1) 0 → t.coupon ≡ get_or terms (6 * i + 2) 0 → t.days ≡ get_or terms (6 * i + 3) 0 → w ≡ rate t) where
@@ -86,7 +86,7 @@ module _ {issues : ℕ} {terms rates : List ℕ} (p : Termed issues terms rates)
       places = length-set rates' i w ∙ r.places;
       each = below_more (λ k. Rated (get_or (terms_in issues terms) k no_terms) (get_or (set rates' i w) k 0)) i
           (λ k l. rw (get_or-set_other rates' i k w 0 (omega arith)) (r.each k l))
-          (rw (get_or-set_same rates' i w 0 (omega (arith, r.places, p.issues_most))) its-rate);
+          (rw (get_or-set_same rates' i w 0 (omega (arith, r.places))) its-rate);
     }
 
 pub rates-all : {issues : ℕ} {terms rates : List ℕ} {i : ℕ} → RatesTo issues terms rates i → issues ≤ i → Rates (terms_in issues terms) rates
@@ -116,13 +116,10 @@ fit-terms t h =
       },
     )
 
-pub sound-termed : (issues : ℕ) (terms rates : List ℕ) → issues ≤ 32 → 6 * issues ≤ length terms → length rates ≡ 32
-    → all_terms_fit issues (terms_in issues terms) ≡ true → Termed issues terms rates
+pub sound-termed : (issues : ℕ) (terms : List ℕ) → 6 * issues ≤ length terms → all_terms_fit issues (terms_in issues terms) ≡ true → Termed issues terms
 unfolding all_terms_fit
-sound-termed issues terms rates few cells places fit = record {
-  issues_most = few;
+sound-termed issues terms cells fit = record {
   cells = cells;
-  places = places;
   priced = λ i h. rw (price-at issues terms i h) at (fits i h).0;
   quoted = λ i h. rw (price-at issues terms i h, coupon-at issues terms i h, days-at issues terms i h) at (fits i h).1;
 }

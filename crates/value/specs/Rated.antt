@@ -19,11 +19,9 @@ pub record Rated (t : Terms) (w : ℕ) : Type 0 where
 pub record Rates (ts : List Terms) (rates : List ℕ) : Type 0 where
   pub each : (i : ℕ) → i < length ts → Rated (get_or ts i no_terms) (get_or rates i 0)
 
--- terms in their ranges, and a place for the rate of each issue
-pub record Termed (issues : ℕ) (terms rates : List ℕ) : Type 0 where
-  pub issues_most : issues ≤ 32
+-- terms in their ranges
+pub record Termed (issues : ℕ) (terms : List ℕ) : Type 0 where
   pub cells : 6 * issues ≤ length terms
-  pub places : length rates ≡ 32
   pub priced : (i : ℕ) → i < issues → 1000 ≤ get_or terms (6 * i + 1) 0
   pub quoted : (i : ℕ) → i < issues → Quoted (get_or terms (6 * i + 1) 0) (get_or terms (6 * i + 2) 0) (get_or terms (6 * i + 3) 0)
 
@@ -34,11 +32,10 @@ pub record Priced (issues : ℕ) (rates : List ℕ) : Type 0 where
   pub rated : Rates terms rates
 
 -- what may be used of each issue, and its rate
-pub record Stocked (issues : ℕ) (usable rates : List ℕ) : Type 0 where
-  pub priced : Priced issues rates
-  pub issues_most : issues ≤ 32
-  pub wide : length usable ≡ 32
-  pub usable_most : (i : ℕ) → i < issues → get_or usable i 0 ≤ 200_000_000
+pub record Stocked (usable rates : List ℕ) : Type 0 where
+  pub priced : Priced (length usable) rates
+  pub issues_most : length usable ≤ 32
+  pub usable_most : (i : ℕ) → i < length usable → get_or usable i 0 ≤ 200_000_000
 
 -- lots whose value is added to a sum
 pub record Summable (w lots sum : ℕ) : Type 0 where

@@ -1,23 +1,24 @@
-use Rattle.std.proofs.Common.{arith, refl}
-use Rattle.forced.proofs.ChoiceLaws.{fifth-none, fifth-met, fifth-passed, fifth-all}
+use Rattle.std.proofs.Common.{arith, ◌∙◌, ap, sym}
+use Rattle.forced.proofs.ChoiceLaws.{fifth-ten, fifth-other, fifth-passed, fifth-all, found}
+use Rattle.forced.proofs.fifth_largest.Goals.{then-kind-eq2, else-kind-eq2}
 use Rattle.forced.proofs.fifth_largest.Goals as goal
-
-pub loop-i-init : goal.loop-i-init
-loop-i-init c = fifth-none _ _ _ refl refl refl refl
-
-pub overflow_mul-i : goal.overflow_mul-i
-overflow_mul-i c = omega (arith, c.requires.issues_most, c.loop-i.invariant.at)
-
-pub is_eligible-requires : goal.is_eligible-requires
-is_eligible-requires c = omega (arith, c.requires.cells, c.loop-i.invariant.at)
 
 pub loop-i-preserved-then-is_eligible : goal.loop-i-preserved-then-is_eligible
 loop-i-preserved-then-is_eligible c =
-    fifth-met _ _ _ c.loop-i-test.true c.loop-i.invariant c.is_eligible.ensures c.if-is_eligible.true c.with_kind-ten.ensures c.with_issue-any.ensures
+    elim c.if-kind-eq2.branch [
+      | then-kind-eq2 w ↦
+          rw w.ten-is
+          (fifth-ten _ _ _ (omega arith) (omega arith) c.loop-i.invariant c.is_eligible.ensures c.if-is_eligible.true w.if-kind-eq2.true w.with_issue-ten.ensures c.with_issue-any.ensures)
+      | else-kind-eq2 w ↦
+          rw w.ten-is
+          (fifth-other _ _ _ (omega arith) (omega arith) c.loop-i.invariant c.is_eligible.ensures c.if-is_eligible.true w.if-kind-eq2.false c.with_issue-any.ensures)
+    ]
 
 pub loop-i-preserved : goal.loop-i-preserved
-loop-i-preserved c =
-    fifth-passed _ _ _ c.loop-i-test.true c.loop-i.invariant c.is_eligible.ensures c.if-is_eligible.false
+loop-i-preserved c = fifth-passed _ _ _ (omega arith) (omega arith) c.loop-i.invariant c.is_eligible.ensures c.if-is_eligible.false
 
-pub returns : goal.returns
-returns c = fifth-all _ _ _ c.loop-i-test.false c.loop-i.invariant c.chosen.ensures
+pub returns-in-Some : goal.returns-in-Some
+returns-in-Some c = λ k q. ap found (sym c.in-Some.is ∙ c.or.ensures) ∙ fifth-all _ _ _ (omega arith) c.loop-i.invariant k q
+
+pub returns-in-None : goal.returns-in-None
+returns-in-None c = λ k q. ap found (sym c.in-None.is ∙ c.or.ensures) ∙ fifth-all _ _ _ (omega arith) c.loop-i.invariant k q

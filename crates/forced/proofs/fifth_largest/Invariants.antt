@@ -4,6 +4,3 @@ use Rattle.forced.proofs.fifth_largest.Given as goal
 
 abbrev pub invariant-loop-i : goal.invariant-loop-i
 invariant-loop-i l = FifthDown l.issues l.terms l.kinds l.i l.ten l.any
-
-abbrev pub decreases-loop-i : goal.decreases-loop-i
-decreases-loop-i l = l.i

@@ -1,0 +1,16 @@
+-- `turns::Standing::others` meets its contract. Assumes nothing.
+use Rattle.std.proofs.Common.{◌-◌, ap, arith, ℕ}
+use Rattle.turns.proofs.TurnLaws.{besides-none, had-valuable, part-there}
+use Rattle.turns.proofs.Standing.others.Goals as goal
+
+pub returns-then-self-eq0 : goal.returns-then-self-eq0
+returns-then-self-eq0 c = λ t q. besides-none t _ c.if-self-eq0.true
+
+pub value-part-requires : goal.value-part-requires
+value-part-requires c = had-valuable c.args.self.part
+
+pub overflow_sub-result : goal.overflow_sub-result
+overflow_sub-result c = omega (arith, part-there c.args.self.part c.value-part.ensures)
+
+pub returns : goal.returns
+returns c = λ t q. ap (λ (part : ℕ). c.args.self.reached.0 - part) (c.value-part.ensures t q.rated)

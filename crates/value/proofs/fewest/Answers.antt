@@ -1,6 +1,0 @@
--- `value::fewest` meets its contract: one division. Assumes nothing.
-use Rattle.value.proofs.RateLaws.{fewest-closed}
-use Rattle.value.proofs.fewest.Goals as goal
-
-pub returns : goal.returns
-returns c = λ t priced rated. fewest-closed t priced rated _
