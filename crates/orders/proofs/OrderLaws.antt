@@ -1,15 +1,17 @@
 -- Laws of the order of a deliverer's issues. Assumes nothing.
 use mathlib.Core.Path.{◌≡◌, refl, sym, ap, ap₂, ◌∙◌, subst}
 use mathlib.Core.Logic.{◌≢◌, inl, inr}
-use mathlib.Core.Bool.{Bool}
+use mathlib.Core.Bool.{Bool, false}
 use mathlib.Core.List.{List, [], ◌++◌}
-use Rattle.std.specs.Prelude.{Option, Some}
+use Rattle.std.specs.Prelude.{Option}
 use Prim.Native.Nat.{ℕ, ◌+◌, ◌-◌, ◌*◌, ◌≤◌, ◌<◌}
 use native.Mathlib.Nat.{le_refl, not-suc-le-zero}
 use native.Mathlib.Decide.{ℕ_discrete}
 use native.Mathlib.Omega.{arith}
 use lib.ListN.{length, get_or, take, drop, length-append, length-drop}
 use lib.Seq.{ext_get_or, take_all, take-append_seam}
+use lib.Dec.{eqb}
+use borrow.Author.Tests.{eqb-false}
 use borrow.Rule.Slice.PartMut.{put_mid}
 use Rattle.lists.specs.Tables.{table, zeros}
 use Rattle.lists.specs.Order.{ranked}
@@ -150,9 +152,8 @@ module _ {b before : List ℕ} {d : ℕ} {orders : List ℕ} (L : Loadable b bef
 
 -- ---- a match's order
 
--- the match before is there, and has the same deliverer and sort
-pub same-as : (l m : Match) → l.deliverer ≡ m.deliverer → l.preferential ≡ m.preferential → Same (Some l) m
-same-as l m d p = record { before = l; there = refl; deliverer = d; sort = p }
+pub not-empty : (empty : Bool) (n : ℕ) → empty ≡ eqb n 0 → empty ≡ false → 0 < n
+not-empty empty n e f = omega (arith, eqb-false n 0 (sym e ∙ f))
 
 -- an order in a row
 row-long : (order : List ℕ) → length order ≤ 32 → length (in_row order) ≡ 32
