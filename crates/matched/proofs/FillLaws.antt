@@ -1,14 +1,12 @@
 -- Laws of what a match may use, and of filling it. Assumes nothing.
 use mathlib.Core.Path.{◌≡◌, sym, ap, ap₂, ◌∙◌, subst}
-use mathlib.Core.Bool.{Bool}
-use mathlib.Core.List.{List}
+use mathlib.Core.List.{List, ◌++◌}
 use Prim.Native.Nat.{ℕ, ◌+◌, ◌-◌, ◌*◌, ◌≤◌, ◌<◌}
 use native.Mathlib.Decide.{ℕ_discrete}
 use native.Mathlib.Omega.{arith}
 use lib.ListN.{length, get_or, set, take, drop, length-set}
-use lib.Seq.{ext_get_or, length-take-le, take_all, get_or-take, get_or-set_same, get_or-set_other}
-use lib.Dec.{eqb}
-use Rattle.lists.specs.Tables.{table}
+use lib.Seq.{ext_get_or, take-append_seam, length-take-le, take_all, get_or-take, get_or-set_same, get_or-set_other}
+use Rattle.lists.specs.Tables.{table, zeros}
 use Rattle.lists.specs.Parts.{block}
 use Rattle.lists.proofs.TableLaws.{length-table, get_or-table}
 use Rattle.lists.proofs.PartLaws.{block-get, length-block, part-is, part_length}
@@ -17,6 +15,7 @@ use Rattle.rule.specs.Layout.{terms_at, notices_at}
 use Rattle.value.proofs.TermLaws.{terms-length, terms-priced}
 use Rattle.filling.specs.Match.{Matchable, FilledAs}
 use Rattle.filling.specs.declared.Filling.{Filling}
+use Rattle.matching.specs.declared.Match.{Match as Entry}
 use Rattle.records.specs.Issues.{Used, IssuesWritable, IssuesWritten}
 use Rattle.stock.specs.Stock.{usable_of, Usable as RowUsable, Usables}
 use Rattle.stock.proofs.StockLaws.{usable_most}
@@ -25,12 +24,12 @@ use Rattle.matched.specs.Filled.{book_terms, usable_in, UsableAsked, UsableLots,
 
 -- ---- what may be used
 
-module _ {b cells : List ℕ} {j : ℕ} {rates inside allocable used usable₀ : List ℕ} (h : UsableAsked b cells j rates inside allocable used usable₀) where
+module _ {b : List ℕ} {e : Entry} {rates inside allocable used usable₀ : List ℕ} (h : UsableAsked b e rates inside allocable used usable₀) where
   abbrev m : ℕ
   m = issues_in b
 
   abbrev at : ℕ
-  at = 32 * get_or cells (4 * j) 0
+  at = 32 * e.deliverer
 
   pub stock-fits : at + m ≤ length allocable
   stock-fits = omega (arith, h.stock, h.deliverer, h.sized.issues)
@@ -59,7 +58,7 @@ module _ {b cells : List ℕ} {j : ℕ} {rates inside allocable used usable₀ :
     cell-is : (i : ℕ) → i < m → get_or usable i 0 ≡ f i
     cell-is i l = w.each i l ∙ ap₂ (usable_of (get_or inside i 0)) (lent allocable i l) (lent used i l)
 
-    row_is : take m usable ≡ usable_in b inside allocable used (get_or cells (4 * j) 0)
+    row_is : take m usable ≡ usable_in b inside allocable used e.deliverer
     row_is =
         let long : length (take m usable) ≡ m = length-take-le m usable (omega (arith, w.wide, h.sized.issues)) in
         ext_get_or 0 (take m usable) (table m f) (long ∙ sym (length-table m f))
@@ -68,28 +67,29 @@ module _ {b cells : List ℕ} {j : ℕ} {rates inside allocable used usable₀ :
     most : (i : ℕ) → i < m → get_or usable i 0 ≤ 200_000_000
     most i l = omega (arith, cell-is i l, usable_most (get_or inside i 0) (get_or allocable (at + i) 0) (get_or used (at + i) 0) 200_000_000 (h.allocable_most i l))
 
-    pub usable-are : UsableLots b cells j inside allocable used usable all
+    pub usable-are : UsableLots b e inside allocable used usable all
     usable-are = record { wide = w.wide; row = row_is; most = most; worth_is = w.worth_is (book_terms b) (terms-length m (block b terms_at 192)) h.rated }
 
 -- ---- filling
 
-module _ {b cells : List ℕ} {j : ℕ} {rates usable : List ℕ} {all : ℕ} {order : List ℕ} {count : ℕ} {lots : List ℕ} (h : Fillable b cells j rates usable all order count lots) where
+module _ {b : List ℕ} {e : Entry} {rates usable : List ℕ} {all : ℕ} {order lots : List ℕ} (h : Fillable b e rates usable all order lots) where
   abbrev n : ℕ
   n = issues_in b
 
   abbrev from : ℕ
-  from = notices_at + 32 * get_or cells (4 * j) 0
+  from = notices_at + 32 * e.deliverer
 
   pub notices-fit : from + n ≤ length b
   notices-fit = omega (arith, h.sized.cells, h.sized.issues, h.deliverer)
 
   notices-are : take n (take (from + n - from) (drop from b)) ≡ block b from n
   notices-are =
-      let e : length (take (from + n - from) (drop from b)) ≡ n = part_length b from n notices-fit in
+      let size : length (take (from + n - from) (drop from b)) ≡ n = part_length b from n notices-fit in
       ap (λ (l : List ℕ). take n l) (part-is b from n) ∙ take_all n (block b from n) (omega (arith, length-block b from n notices-fit))
 
-  pub fill-asks : Matchable n count (block b terms_at 192) (take (from + n - from) (drop from b)) usable order rates all (get_or cells (4 * j + 2) 0) lots
-  fill-asks = record {
+  pub fill-asks : {lent part : List ℕ} → lent ≡ order → part ≡ lent
+      → Matchable n (length lent) (block b terms_at 192) (take (from + n - from) (drop from b)) usable (part ++ drop (length lent) (zeros 32)) rates all e.amount.0 lots
+  fill-asks o p = record {
     issues_least = h.sized.some;
     issues_most = h.sized.issues;
     cells = omega (arith, length-block b terms_at 192 (omega (arith, h.sized.cells)), h.sized.issues);
@@ -98,18 +98,22 @@ module _ {b cells : List ℕ} {j : ℕ} {rates usable : List ℕ} {all : ℕ} {o
     empty = h.empty;
     rated = h.rated;
     usable_most = h.most;
-    named = h.named;
+    named = rw (p, o) h.named;
     all_is = h.worth_is;
     amount_most = h.amount;
   }
 
-  pub fill_is : (k : ℕ) {f : Filling} {lots' : List ℕ} (preferential : Bool) → preferential ≡ eqb (get_or cells (4 * j + 3) 0) 1
-      → FilledAs (filled (get_or b 2 0) preferential (book_terms b) (take n usable) (take count order) (forced_issue k (book_terms b) (take n (take (from + n - from) (drop from b)))) (get_or cells (4 * j + 2) 0)) f lots'
-      → FilledAs (filled_in b k cells j usable order count) f lots'
+  pub fill_is : (k : ℕ) {lent part : List ℕ} {f : Filling} {lots' : List ℕ} → lent ≡ order → part ≡ lent
+      → FilledAs (filled (get_or b 2 0) e.preferential (book_terms b) (take n usable) (take (length lent) (part ++ drop (length lent) (zeros 32)))
+        (forced_issue k (book_terms b) (take n (take (from + n - from) (drop from b)))) e.amount.0) f lots'
+      → FilledAs (filled_in b k e usable order) f lots'
   unfolding filled_in
-  fill_is k {f} {lots'} preferential e p =
+  fill_is k {lent} {part} {f} {lots'} o p q =
       subst (λ (x : Filled). FilledAs x f lots')
-      (ap₂ (λ (q : Bool) (l : List ℕ). filled (get_or b 2 0) q (book_terms b) (take n usable) (take count order) (forced_issue k (book_terms b) l) (get_or cells (4 * j + 2) 0)) e notices-are) p
+      (ap₂ (λ (r l : List ℕ). filled (get_or b 2 0) e.preferential (book_terms b) (take n usable) r (forced_issue k (book_terms b) l) e.amount.0) listed notices-are) q
+    where
+      listed : take (length lent) (part ++ drop (length lent) (zeros 32)) ≡ order
+      listed = rw (p, o) (take-append_seam order (drop (length order) (zeros 32)))
 
 -- ---- writing
 

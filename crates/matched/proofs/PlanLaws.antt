@@ -9,12 +9,14 @@ use Rattle.lists.proofs.PartLaws.{length-block, part-is, part_length}
 use Rattle.rows.proofs.RowLaws.{made-block}
 use Rattle.rule.specs.Matching.{plan}
 use Rattle.rule.specs.Layout.{pairs_at, positions_at, plus, minus}
+use Rattle.arrayvec.specs.ArrayVec.{ArrayVec}
+use Rattle.matching.specs.declared.Match.{Match as Entry}
 use Rattle.matching.specs.Plans.{Basket, Planned, pair_marks}
 use Rattle.matching.proofs.CallerLaws.{sound-basket, marks-of-book}
 use Rattle.orders.specs.Sizes.{participants_in}
 use Rattle.matched.specs.Filled.{positions_in, plan_in, PlanRows}
 
-module _ (b draw : List ℕ) (k : ℕ) (owed due cells : List ℕ) (h : PlanRows b draw k owed due cells) where
+module _ (b draw : List ℕ) (k : ℕ) (owed due : List ℕ) (made : ArrayVec Entry) (h : PlanRows b draw k owed due made) where
   abbrev at : ℕ
   at = positions_at + 12 * k
 
@@ -46,22 +48,21 @@ module _ (b draw : List ℕ) (k : ℕ) (owed due cells : List ℕ) (h : PlanRows
     due-is : due' ≡ map minus (positions_in b k)
     due-is = v ∙ ap (λ (m : ℕ). map minus (block b at m)) h.owned
 
-    pub plan-asks : Basket (take (pairs + 144 - pairs) (drop pairs b)) draw owed' due' cells
+    pub plan-asks : Basket (take (pairs + 144 - pairs) (drop pairs b)) draw owed' due' made
     plan-asks =
         rw (owed-is, due-is)
-        (sound-basket n _ draw (positions_in b k) cells (length-block b at n positions-fit) h.plannable.sized.participants
-        (omega (arith, part_length b pairs 144 pairs_fit, h.plannable.sized.participants)) h.plannable.drawn h.plannable.room)
+        (sound-basket n _ draw (positions_in b k) made (length-block b at n positions-fit) h.plannable.sized.participants
+        (omega (arith, part_length b pairs 144 pairs_fit, h.plannable.sized.participants)) h.plannable.drawn h.plannable.empty)
 
-    pub plan-is : {runs count : ℕ} {cells' : List ℕ} → runs ≡ get_or b 2 0
-        → Planned (plan runs (pair_marks (take (pairs + 144 - pairs) (drop pairs b)) (length owed')) draw owed' due') cells' count
-        → Planned (plan_in b draw k) cells' count
+    pub plan-is : {runs : ℕ} {made' : ArrayVec Entry} → runs ≡ get_or b 2 0
+        → Planned (plan runs (pair_marks (take (pairs + 144 - pairs) (drop pairs b)) (length owed')) draw owed' due') made'
+        → Planned (plan_in b draw k) made'
     unfolding plan_in
-    plan-is {runs} {count} {cells'} e p =
+    plan-is {runs} {made'} e p =
         let o : length owed' ≡ n = ap length owed-is ∙ length-map (positions_in b k) plus ∙ length-block b at n positions-fit in
         let m : pair_marks (take (pairs + 144 - pairs) (drop pairs b)) (length owed') ≡ grid b pairs 12 n n =
         ap₂ (λ (x : List ℕ) (q : ℕ). pair_marks x q) (part-is b pairs 144) o ∙ marks-of-book b pairs n h.plannable.sized.participants pairs_fit in
         record {
           matches = p.matches ∙ ap₂ (λ (r : ℕ) (x : List (List ℕ)). plan r x draw owed' due') e m
               ∙ ap₂ (λ (x y : List ℕ). plan (get_or b 2 0) (grid b pairs 12 n n) draw x y) owed-is due-is;
-          room = p.room;
         }

@@ -1,9 +1,12 @@
 -- One match of a basket: what planning, filling and writing it ask and leave. Assumes nothing.
-use Rattle.std.specs.Prelude.{◌≡◌, ◌≢◌, List, map, ℕ, ◌+◌, ◌*◌, ◌≤◌, ◌<◌, length, get_or, set, take, eqb}
+use Rattle.std.specs.Prelude.{◌≡◌, ◌≢◌, List, map, ℕ, ◌+◌, ◌*◌, ◌≤◌, ◌<◌, [], length, get_or, set, take}
 use Rattle.lists.specs.Tables.{table, zeros}
 use Rattle.lists.specs.Parts.{block, grid, over}
 use Rattle.rule.specs.Value.{Terms}
 use Rattle.rule.specs.Matching.{Match, plan}
+use Rattle.arrayvec.specs.ArrayVec.{ArrayVec}
+use Rattle.matching.specs.declared.Match.{Match as Entry}
+use Rattle.orders.specs.Orders.{in_row}
 use Rattle.rule.specs.Filling.{worth, Filled, filled, forced_issue}
 use Rattle.rule.specs.Layout.{book_length, terms_at, pairs_at, positions_at, notices_at, plus, minus}
 use Rattle.rule.proofs.DrawLaws.{EachOnce}
@@ -26,15 +29,15 @@ unfoldable pub plan_in : List ℕ → List ℕ → ℕ → List Match
 plan_in b draw k =
     plan (get_or b 2 0) (grid b (pairs_at + 144 * k) 12 (participants_in b) (participants_in b)) draw (map plus (positions_in b k)) (map minus (positions_in b k))
 
-pub record Plannable (b draw : List ℕ) (k : ℕ) (cells : List ℕ) : Type 0 where
+pub record Plannable (b draw : List ℕ) (k : ℕ) (plan : ArrayVec Entry) : Type 0 where
   pub sized : Sized b
-  pub room : 44 ≤ length cells
+  pub empty : plan.items ≡ []
   pub basket : k < 7
   pub drawn : EachOnce draw (participants_in b)
 
 -- and rows for the participants
-pub record PlanRows (b draw : List ℕ) (k : ℕ) (owed due cells : List ℕ) : Type 0 where
-  pub plannable : Plannable b draw k cells
+pub record PlanRows (b draw : List ℕ) (k : ℕ) (owed due : List ℕ) (plan : ArrayVec Entry) : Type 0 where
+  pub plannable : Plannable b draw k plan
   pub owing : length owed ≡ participants_in b
   pub owned : length due ≡ participants_in b
 
@@ -46,42 +49,40 @@ book_terms b = terms_in (issues_in b) (block b terms_at 192)
 abbrev pub usable_in : List ℕ → List ℕ → List ℕ → List ℕ → ℕ → List ℕ
 usable_in b inside allocable used d = table (issues_in b) (λ i. usable_of (get_or inside i 0) (get_or allocable (32 * d + i) 0) (get_or used (32 * d + i) 0))
 
-pub record UsableAsked (b cells : List ℕ) (j : ℕ) (rates inside allocable used usable : List ℕ) : Type 0 where
+pub record UsableAsked (b : List ℕ) (m : Entry) (rates inside allocable used usable : List ℕ) : Type 0 where
   pub sized : Sized b
-  pub place : j < 11
-  pub deliverer : get_or cells (4 * j) 0 < 12
+  pub deliverer : m.deliverer < 12
   pub rated : Rates (book_terms b) rates
   pub stock : length allocable ≡ 384
   pub gone : length used ≡ 384
-  pub allocable_most : (i : ℕ) → i < issues_in b → get_or allocable (32 * get_or cells (4 * j) 0 + i) 0 ≤ 200_000_000
-  pub enough : (i : ℕ) → i < issues_in b → get_or inside i 0 ≡ 1 → get_or used (32 * get_or cells (4 * j) 0 + i) 0 ≤ get_or allocable (32 * get_or cells (4 * j) 0 + i) 0
+  pub allocable_most : (i : ℕ) → i < issues_in b → get_or allocable (32 * m.deliverer + i) 0 ≤ 200_000_000
+  pub enough : (i : ℕ) → i < issues_in b → get_or inside i 0 ≡ 1 → get_or used (32 * m.deliverer + i) 0 ≤ get_or allocable (32 * m.deliverer + i) 0
   pub wide : length usable ≡ 32
 
--- what match j may use, and what all of it is worth
-pub record UsableLots (b cells : List ℕ) (j : ℕ) (inside allocable used usable : List ℕ) (all : ℕ) : Type 0 where
+-- what match m may use, and what all of it is worth
+pub record UsableLots (b : List ℕ) (m : Entry) (inside allocable used usable : List ℕ) (all : ℕ) : Type 0 where
   pub wide : length usable ≡ 32
-  pub row : take (issues_in b) usable ≡ usable_in b inside allocable used (get_or cells (4 * j) 0)
+  pub row : take (issues_in b) usable ≡ usable_in b inside allocable used m.deliverer
   pub most : (i : ℕ) → i < issues_in b → get_or usable i 0 ≤ 200_000_000
   pub worth_is : all ≡ worth (book_terms b) (take (issues_in b) usable)
 
 -- ---- filling
 
-pub record Fillable (b cells : List ℕ) (j : ℕ) (rates usable : List ℕ) (all : ℕ) (order : List ℕ) (count : ℕ) (lots : List ℕ) : Type 0 where
+pub record Fillable (b : List ℕ) (m : Entry) (rates usable : List ℕ) (all : ℕ) (order lots : List ℕ) : Type 0 where
   pub sized : Sized b
-  pub place : j < 11
-  pub deliverer : get_or cells (4 * j) 0 < 12
-  pub amount : get_or cells (4 * j + 2) 0 ≤ 10_000_000_000_000
+  pub deliverer : m.deliverer < 12
+  pub amount : m.amount.0 ≤ 10_000_000_000_000
   pub rated : Rates (book_terms b) rates
   pub wide : length usable ≡ 32
   pub most : (i : ℕ) → i < issues_in b → get_or usable i 0 ≤ 200_000_000
   pub worth_is : all ≡ worth (book_terms b) (take (issues_in b) usable)
-  pub named : Named (issues_in b) count order
+  pub named : Named (issues_in b) (length order) (in_row order)
   pub empty : lots ≡ zeros 32
 
-unfoldable pub filled_in : List ℕ → ℕ → List ℕ → ℕ → List ℕ → List ℕ → ℕ → Filled
-filled_in b k cells j usable order count =
-    filled (get_or b 2 0) (eqb (get_or cells (4 * j + 3) 0) 1) (book_terms b) (take (issues_in b) usable) (take count order)
-    (forced_issue k (book_terms b) (block b (notices_at + 32 * get_or cells (4 * j) 0) (issues_in b))) (get_or cells (4 * j + 2) 0)
+unfoldable pub filled_in : List ℕ → ℕ → Entry → List ℕ → List ℕ → Filled
+filled_in b k m usable order =
+    filled (get_or b 2 0) m.preferential (book_terms b) (take (issues_in b) usable) order
+    (forced_issue k (book_terms b) (block b (notices_at + 32 * m.deliverer) (issues_in b))) m.amount.0
 
 -- ---- writing
 
@@ -108,20 +109,19 @@ pub record LotsWritten (b used lines : List ℕ) (d r number first : ℕ) (f : F
   pub listed : Listed lines lines' first number (lots_with f lots) count
   pub moved : LotsMoved b b' d r (lots_with f lots)
 
-pub record Writable (b : List ℕ) (k : ℕ) (cells : List ℕ) (j : ℕ) (f : Filling) (lots used matches lines : List ℕ) (m l : ℕ) : Type 0 where
+pub record Writable (b : List ℕ) (k : ℕ) (m : Entry) (f : Filling) (lots used matches lines : List ℕ) (n l : ℕ) : Type 0 where
   pub basket : k < 7
-  pub place : j < 11
-  pub match_room : 7 * (m + 1) ≤ length matches
-  pub match_few : m + 1 < 18446744073709551616
-  pub lots_asked : LotsWritable b used lines (get_or cells (4 * j) 0) (get_or cells (4 * j + 1) 0) m l f lots
+  pub match_room : 7 * (n + 1) ≤ length matches
+  pub match_few : n + 1 < 18446744073709551616
+  pub lots_asked : LotsWritable b used lines m.deliverer m.receiver n l f lots
 
--- match j is written: its lots used, listed and booked
-pub record Wrote (b : List ℕ) (k : ℕ) (cells : List ℕ) (j : ℕ) (f : Filling) (lots used matches lines : List ℕ) (m l : ℕ)
-    (b' used' matches' lines' : List ℕ) (m' l' : ℕ) : Type 0 where
-  pub gone : Used used used' (get_or cells (4 * j) 0) lots
-  pub entry : matches' ≡ over matches (7 * m) (entry_of k (get_or cells (4 * j) 0) (get_or cells (4 * j + 1) 0) (get_or cells (4 * j + 2) 0) f)
-  pub matched : m' ≡ m + 1
-  pub listed : Listed lines lines' l m (lots_with f lots) l'
+-- match m is written: its lots used, listed and booked
+pub record Wrote (b : List ℕ) (k : ℕ) (m : Entry) (f : Filling) (lots used matches lines : List ℕ) (n l : ℕ)
+    (b' used' matches' lines' : List ℕ) (n' l' : ℕ) : Type 0 where
+  pub gone : Used used used' m.deliverer lots
+  pub entry : matches' ≡ over matches (7 * n) (entry_of k m.deliverer m.receiver m.amount.0 f)
+  pub matched : n' ≡ n + 1
+  pub listed : Listed lines lines' l n (lots_with f lots) l'
   pub between : List ℕ
-  pub yen : YenMoved b between k (get_or cells (4 * j) 0) (get_or cells (4 * j + 1) 0) f.covered.0
-  pub moved : LotsMoved between b' (get_or cells (4 * j) 0) (get_or cells (4 * j + 1) 0) (lots_with f lots)
+  pub yen : YenMoved b between k m.deliverer m.receiver f.covered.0
+  pub moved : LotsMoved between b' m.deliverer m.receiver (lots_with f lots)

@@ -1,4 +1,4 @@
-// One match of a basket: what it may use, its filling, and what is written of it. Matches stand in cells, four to each.
+// One match of a basket: what it may use, its filling, and what is written of it.
 #![tactic(auto)]
 
 ghost use Rattle.filling.specs.Match.{FilledAs};
@@ -7,6 +7,8 @@ ghost use Rattle.matched.specs.Filled.{Plannable, PlanRows, plan_in, UsableAsked
 
 use book::sound;
 use filling::Filling;
+use matching::{Match, Plan};
+use ordering::Order;
 use records::{booking, issues, listing};
 use rule::{Counts, Yen};
 
@@ -17,10 +19,10 @@ fn plan_rows(
     draw: &[u64],
     owed: &mut [u64],
     due: &mut [u64],
-    cells: &mut [u64],
-) -> usize
-    requires { PlanRows book.now draw.now basket owed.old due.old cells.old }
-    ensures { Planned (plan_in book.now draw.now basket) cells.new result }
+    plan: &mut Plan,
+)
+    requires { PlanRows book.now draw.now basket owed.old due.old plan.old }
+    ensures { Planned (plan_in book.now draw.now basket) plan.new }
 {
     let positions = layout::POSITIONS + layout::MOST_PARTICIPANTS * basket;
     let pairs = layout::PAIRS + layout::SQUARE * basket;
@@ -34,13 +36,14 @@ fn plan_rows(
         draw,
         owed,
         due,
-        cells,
-    )
+        plan,
+    );
 }
 
-pub fn plan_basket(book: &[u64], basket: usize, draw: &[u64], cells: &mut [u64]) -> usize
-    requires { Plannable book.now draw.now basket cells.old }
-    ensures { Planned (plan_in book.now draw.now basket) cells.new result }
+// The matches of the basket, into an empty plan.
+pub fn plan_basket(book: &[u64], basket: usize, draw: &[u64], plan: &mut Plan)
+    requires { Plannable book.now draw.now basket plan.old }
+    ensures { Planned (plan_in book.now draw.now basket) plan.new }
 {
     let participants = book[layout::PARTICIPANTS] as usize;
     let mut owed = [0u64; 12];
@@ -51,27 +54,25 @@ pub fn plan_basket(book: &[u64], basket: usize, draw: &[u64], cells: &mut [u64])
         draw,
         &mut owed[..participants],
         &mut due[..participants],
-        cells,
-    )
+        plan,
+    );
 }
 
-// What match j may use, into a lent row, and what all of it is worth.
+// What a match may use, into a lent row, and what all of it is worth.
 pub fn usable_lots(
     book: &[u64],
-    cells: &[u64; 44],
-    j: usize,
+    m: Match,
     rates: &[u64; 32],
     inside: &[u64; 32],
     allocable: &[u64],
     used: &[u64],
     usable: &mut [u64; 32],
 ) -> Yen
-    requires { UsableAsked book.now cells.now j rates.now inside.now allocable.now used.now usable.old }
-    ensures { UsableLots book.now cells.now j inside.now allocable.now used.now usable.new result.0 }
+    requires { UsableAsked book.now m rates.now inside.now allocable.now used.now usable.old }
+    ensures { UsableLots book.now m inside.now allocable.now used.now usable.new result.0 }
 {
     let issues = book[layout::ISSUES] as usize;
-    let deliverer = cells[4 * j] as usize;
-    let at = layout::MOST_ISSUES * deliverer;
+    let at = layout::MOST_ISSUES * m.deliverer;
     let end = at + issues;
     stock::usable_row(
         inside,
@@ -83,41 +84,40 @@ pub fn usable_lots(
     )
 }
 
-// Match j, filled with what it may use.
+// A match, filled with what it may use.
 pub fn fill_next(
     book: &[u64],
     basket: usize,
-    cells: &[u64; 44],
-    j: usize,
+    m: Match,
     rates: &[u64; 32],
     usable: &[u64; 32],
     all: Yen,
-    order: &[u64; 32],
-    count: usize,
+    order: &Order,
     lots: &mut [u64; 32],
 ) -> Filling
-    requires { Fillable book.now cells.now j rates.now usable.now all.0 order.now count lots.old }
-    ensures { FilledAs (filled_in book.now basket cells.now j usable.now order.now count) result lots.new }
+    requires { Fillable book.now m rates.now usable.now all.0 order.now.items lots.old }
+    ensures { FilledAs (filled_in book.now basket m usable.now order.now.items) result lots.new }
 {
     let issues = book[layout::ISSUES] as usize;
-    let deliverer = cells[4 * j] as usize;
-    let amount = cells[4 * j + 2];
-    let sort = cells[4 * j + 3];
-    let notices = layout::NOTICES + layout::MOST_ISSUES * deliverer;
+    let notices = layout::NOTICES + layout::MOST_ISSUES * m.deliverer;
     let end = notices + issues;
+    // a row until filling takes the order as it is
+    let listed = order.as_slice();
+    let mut row = [0u64; 32];
+    row[..listed.len()].copy_from_slice(listed);
     filling::fill_match(
         book[layout::RUNS],
-        sort == 1,
+        m.preferential,
         basket as u64,
         issues,
         &book[layout::TERMS..layout::RECEIPTS],
         &book[notices..end],
         usable,
-        order,
-        count,
+        &row,
+        listed.len(),
         rates,
         all,
-        Yen(amount),
+        m.amount,
         lots,
     )
 }
@@ -127,33 +127,29 @@ fn write_lots(
     book: &mut [u64],
     used: &mut [u64],
     lines: &mut [u64],
-    deliverer: usize,
-    receiver: usize,
+    m: Match,
     number: u64,
     first: usize,
     f: Filling,
     lots: &mut [u64],
 ) -> usize
-    requires { LotsWritable book.old used.old lines.old deliverer receiver number first f lots.old }
-    ensures { LotsWritten book.old used.old lines.old deliverer receiver number first f lots.old book.new used.new lines.new result }
+    requires { LotsWritable book.old used.old lines.old m.deliverer m.receiver number first f lots.old }
+    ensures { LotsWritten book.old used.old lines.old m.deliverer m.receiver number first f lots.old book.new used.new lines.new result }
 {
     let forced = f.forced as usize;
     let further = f.forced_lots;
     lots[forced] = lots[forced] + further.0;
-    let count = issues::write_issues(
-        book, &mut *used, lines, deliverer, receiver, number, first, &*lots,
-    );
-    let place = layout::MOST_ISSUES * deliverer + forced;
+    let count = issues::write_issues(book, &mut *used, lines, m, number, first, &*lots);
+    let place = layout::MOST_ISSUES * m.deliverer + forced;
     used[place] = used[place] - further.0;
     count
 }
 
-// Match j as it was filled: its lots are used, and it is listed and booked.
+// A match as it was filled: its lots are used, and it is listed and booked.
 pub fn write_next(
     book: &mut [u64],
     basket: usize,
-    cells: &[u64; 44],
-    j: usize,
+    m: Match,
     f: Filling,
     lots: &mut [u64],
     used: &mut [u64],
@@ -161,36 +157,17 @@ pub fn write_next(
     lines: &mut [u64],
     done: Counts,
 ) -> Counts
-    requires { Writable book.old basket cells.now j f lots.old used.old matches.old lines.old done.matches done.lines }
-    ensures { Wrote book.old basket cells.now j f lots.old used.old matches.old lines.old done.matches done.lines
+    requires { Writable book.old basket m f lots.old used.old matches.old lines.old done.matches done.lines }
+    ensures { Wrote book.old basket m f lots.old used.old matches.old lines.old done.matches done.lines
         book.new used.new matches.new lines.new result.matches result.lines }
 {
-    let deliverer = cells[4 * j];
-    let receiver = cells[4 * j + 1];
-    let amount = cells[4 * j + 2];
-    let covered = f.covered;
-    listing::write_match(
-        matches,
-        done.matches,
-        basket as u64,
-        deliverer,
-        receiver,
-        Yen(amount),
-        f,
-    );
-    booking::move_yen(
-        &mut *book,
-        basket,
-        deliverer as usize,
-        receiver as usize,
-        covered,
-    );
+    listing::write_match(matches, done.matches, basket as u64, m, f);
+    booking::move_yen(&mut *book, basket, m, f.covered);
     let line = write_lots(
         book,
         used,
         lines,
-        deliverer as usize,
-        receiver as usize,
+        m,
         done.matches as u64,
         done.lines,
         f,

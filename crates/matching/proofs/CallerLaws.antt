@@ -11,12 +11,14 @@ use Rattle.lists.specs.Tests.{pick}
 use Rattle.lists.specs.Parts.{block, grid}
 use Rattle.lists.proofs.PartLaws.{table-agree}
 use Rattle.lists.proofs.FoldLaws.{every_map}
-use Rattle.lists.proofs.TableLaws.{get_or-table}
+use Rattle.lists.proofs.TableLaws.{get_d_map}
 use Rattle.rule.specs.Matching.{Match, OneZero}
 use Rattle.rule.specs.Layout.{plus, minus}
 use Rattle.rule.proofs.DrawLaws.{EachOnce}
+use Rattle.arrayvec.specs.ArrayVec.{ArrayVec}
+use Rattle.matching.specs.declared.Match.{Match as Entry}
 use Rattle.matching.proofs.ListLaws.{block-block}
-use Rattle.matching.specs.Plans.{match_at, pair_marks, Planned, Basket}
+use Rattle.matching.specs.Plans.{match_of, pair_marks, Planned, Basket}
 
 -- ---- a basket of a sound day
 
@@ -34,16 +36,16 @@ signed-one-zero (c ∷ cs) zero = one_of c
 signed-one-zero (c ∷ cs) (suc p) = signed-one-zero cs p
 
 -- n participants, their positions in the basket, and a right draw
-pub sound-basket : (n : ℕ) (marks draw positions cells : List ℕ) → length positions ≡ n → n ≤ 12 → 12 * n ≤ length marks → EachOnce draw n → 44 ≤ length cells
-    → Basket marks draw (map plus positions) (map minus positions) cells
-sound-basket n marks draw positions cells e h k r c =
+pub sound-basket : (n : ℕ) (marks draw positions : List ℕ) (made : ArrayVec Entry) → length positions ≡ n → n ≤ 12 → 12 * n ≤ length marks → EachOnce draw n
+    → made.items ≡ [] → Basket marks draw (map plus positions) (map minus positions) made
+sound-basket n marks draw positions made e h k r c =
     let o : length (map plus positions) ≡ n = length-map positions plus ∙ e in
     let u : length (map minus positions) ≡ n = length-map positions minus ∙ e in
     record {
       sizes = record { same = u ∙ sym o; few = omega arith; marked = omega arith };
       one_zero = signed-one-zero positions;
       receivers = every_map (λ p. p < n) (λ p. p < length (map plus positions)) (λ p l. omega arith) draw r.nobody_else;
-      room = omega arith;
+      empty = c;
     }
 
 -- the marks of a basket, lent as the 144 cells at its place in the book
@@ -55,6 +57,10 @@ marks-of-book book at n h k =
 
 -- ---- the matches
 
--- match k stands in the four cells from 4 k on
-pub planned-at : {ms : List Match} {cells : List ℕ} {n : ℕ} → Planned ms cells n → (k : ℕ) (d : Match) → k < n → match_at cells k ≡ get_or ms k d
-planned-at {cells = cells} {n = n} p k d h = sym (get_or-table n (match_at cells) k d h) ∙ ap (λ (l : List Match). get_or l k d) p.matches
+-- how many they are
+pub planned-count : {ms : List Match} {made : ArrayVec Entry} → Planned ms made → length made.items ≡ length ms
+planned-count {made = made} p = sym (length-map made.items match_of) ∙ ap length p.matches
+
+-- the k-th match
+pub planned-at : {ms : List Match} {made : ArrayVec Entry} → Planned ms made → (k : ℕ) (m : Entry) (d : Match) → k < length made.items → match_of (get_or made.items k m) ≡ get_or ms k d
+planned-at {made = made} p k m d h = sym (get_d_map match_of made.items k m d h) ∙ ap (λ (l : List Match). get_or l k d) p.matches

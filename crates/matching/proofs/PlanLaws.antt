@@ -1,62 +1,70 @@
 -- A basket's plan: the drawn matches behind the preferential ones. Assumes nothing.
-use mathlib.Core.Path.{◌≡◌, sym, ap, ap₂, ◌∙◌}
-use mathlib.Core.List.{List, ◌++◌}
-use Prim.Native.Nat.{ℕ, ◌+◌, ◌-◌, ◌*◌, ◌<◌}
+use mathlib.Core.Path.{◌≡◌, refl, sym, ap, ◌∙◌}
+use mathlib.Core.Bool.{false}
+use mathlib.Core.List.{List, [], ◌∷◌, ◌++◌, map, append-nil, append_assoc}
+use Prim.Native.Nat.{ℕ, ◌+◌, ◌-◌, ◌*◌, ◌≤◌, ◌<◌}
 use native.Mathlib.Omega.{arith}
-use lib.ListN.{length, take, drop, length-append}
-use borrow.Rule.Slice.PartMut.{put_mid}
+use lib.ListN.{length, length-append}
+use Rattle.lists.specs.Folds.{foldl}
+use Rattle.lists.specs.Order.{sorted}
 use Rattle.lists.proofs.FoldLaws.{every_map}
-use Rattle.lists.proofs.TableLaws.{length-table}
-use Rattle.rule.specs.Matching.{Match, Left, preferential, drawn, plan}
+use Rattle.rule.specs.Matching.{Match, meet, with, preferential, turn, deliverers, drawn, plan}
+use Rattle.rule.specs.Matching as rule
 use Rattle.rule.proofs.MatchingLaws.{few_matches}
-use Rattle.matching.specs.Plans.{match_at, Room, Leaves, Planned, Drawing, pair_marks, Preferring, Basket}
-use Rattle.matching.proofs.CellLaws.{length-behind, matches-behind}
+use Rattle.arrayvec.specs.ArrayVec.{ArrayVec}
+use Rattle.matching.specs.declared.Match.{Match as Entry}
+use Rattle.matching.specs.declared.Left.{Left}
+use Rattle.matching.specs.Plans.{match_of, left_of, SameBuffers, Planned, Drawing, pair_marks, Preferring, Basket}
 
-module _ (runs : ℕ) (marks draw owed₀ due₀ cells₀ : List ℕ) (b : Basket marks draw owed₀ due₀ cells₀) where
-  abbrev pairs : Left
-  pairs = preferential runs (pair_marks marks (length owed₀)) owed₀ due₀
+-- matches made before a turn, or before turns, stay in front
+turns_from : (draw ds : List ℕ) (o u : List ℕ) (before made : List Match)
+    → let t : rule.Left = foldl (turn draw) (record { owed = o; due = u; made = made }) ds in
+    foldl (turn draw) (record { owed = o; due = u; made = before ++ made }) ds ≡ record { owed = t.owed; due = t.due; made = before ++ t.made }
+unfolding turn
+turns_from draw [] o u before made = refl
+turns_from draw (d ∷ ds) o u before made =
+    let its : rule.Left = foldl (meet false) (record { owed = o; due = u; made = [] }) (with draw d) in
+    ap (λ (ms : List Match). foldl (turn draw) (record { owed = its.owed; due = its.due; made = ms }) ds) (append_assoc before made (sorted (λ m. m.amount) its.made))
+    ∙ turns_from draw ds its.owed its.due before (made ++ sorted (λ m. m.amount) its.made)
 
-  abbrev rest : Left
+module _ (runs : ℕ) (marks draw : List ℕ) (s : Left) (b : Basket marks draw s.owed.now s.due.now s.made.now) where
+  abbrev pairs : rule.Left
+  pairs = preferential runs (pair_marks marks (length s.owed.now)) s.owed.now s.due.now
+
+  abbrev rest : rule.Left
   rest = drawn draw pairs.owed pairs.due
 
-  abbrev planned : List Match
-  planned = plan runs (pair_marks marks (length owed₀)) draw owed₀ due₀
-
   -- "at most participants − 1 matches in a basket"
-  all_fit : Room cells₀ (length pairs.made + length rest.made)
+  all_fit : length pairs.made + length rest.made ≤ 11
   unfolding plan
   all_fit =
       omega (
         arith,
-        few_matches runs (pair_marks marks (length owed₀)) draw owed₀ due₀ b.sizes.same b.one_zero,
+        few_matches runs (pair_marks marks (length s.owed.now)) draw s.owed.now s.due.now b.sizes.same b.one_zero,
         length-append pairs.made rest.made,
-        b.room,
+        b.sizes.few,
       )
 
-  pub plan-asks : Preferring runs marks owed₀ due₀ cells₀
-  plan-asks = record { sizes = b.sizes; room = omega (arith, all_fit) }
+  pub plan-asks : Preferring runs marks s
+  plan-asks = record { sizes = b.sizes; empty = b.empty; room = omega (arith, all_fit) }
 
   -- the pairs are matched
-  module _ {owed due cells : List ℕ} {n : ℕ} (l : Leaves pairs owed due cells n)
-      (o : length owed ≡ length owed₀) (u : length due ≡ length due₀) (c : length cells ≡ length cells₀) where
-    pairs-count : n ≡ length pairs.made
-    pairs-count = sym (length-table n (match_at cells)) ∙ ap (λ (s : Left). length s.made) l.left
+  module _ {t : Left} (e : left_of t ≡ pairs) (same : SameBuffers s t) where
+    whole : foldl (turn draw) (left_of t) (deliverers t.owed.now) ≡ record { owed = rest.owed; due = rest.due; made = pairs.made ++ rest.made }
+    unfolding drawn
+    whole =
+        ap (λ (u : rule.Left). foldl (turn draw) u (deliverers u.owed)) e
+        ∙ ap (λ (ms : List Match). foldl (turn draw) (record { owed = pairs.owed; due = pairs.due; made = ms }) (deliverers pairs.owed)) (sym (append-nil pairs.made))
+        ∙ turns_from draw (deliverers pairs.owed) pairs.owed pairs.due pairs.made []
 
-    same_rest : drawn draw owed due ≡ rest
-    same_rest = ap (λ (s : Left). drawn draw s.owed s.due) l.left
-
-    pub rest-asks : Drawing draw owed due (take (length cells - 4 * n) (drop (4 * n) cells))
+    pub rest-asks : Drawing draw t
     rest-asks = record {
-      few = omega (arith, b.sizes.few);
-      receivers = every_map (λ p. p < length owed₀) (λ p. p < length due) (λ p l. omega (arith, b.sizes.same)) draw b.receivers;
-      room = omega (arith, all_fit, pairs-count, ap (λ (s : Left). length s.made) same_rest, length-behind cells n l.room);
+      few = omega (arith, b.sizes.few, same.owed_size);
+      receivers = every_map (λ p. p < length s.owed.now) (λ p. p < length t.due.now) (λ p l. omega (arith, b.sizes.same, same.due_size)) draw b.receivers;
+      room = omega (arith, all_fit, ap (λ (u : rule.Left). length u.made) whole, length-append pairs.made rest.made);
     }
 
-    pub plan-done : {owed' due' part : List ℕ} {m : ℕ} → Leaves (drawn draw owed due) owed' due' part m
-        → length (put_mid (4 * n) (length cells - 4 * n) cells part) ≡ length cells
-        → Planned planned (put_mid (4 * n) (length cells - 4 * n) cells part) (n + m)
+    pub plan-done : (u : Left) {made : ArrayVec Entry} → left_of u ≡ foldl (turn draw) (left_of t) (deliverers t.owed.now) → made ≡ u.made.now
+        → Planned (plan runs (pair_marks marks (length s.owed.now)) draw s.owed.now s.due.now) made
     unfolding plan
-    plan-done {part = part} {m = m} r e = record {
-      matches = matches-behind cells n l.room part m ∙ ap₂ ◌++◌ (ap (λ (s : Left). s.made) l.left) (ap (λ (s : Left). s.made) (r.left ∙ same_rest));
-      room = omega (arith, all_fit, pairs-count, ap (λ (s : Left). length s.made) (r.left ∙ same_rest), length-table m (match_at part));
-    }
+    plan-done u f g = record { matches = ap (λ (p : ArrayVec Entry). map match_of p.items) g ∙ ap (λ (v : rule.Left). v.made) (f ∙ whole) }

@@ -1,20 +1,22 @@
 -- Laws of the order of a deliverer's issues. Assumes nothing.
-use mathlib.Core.Path.{◌≡◌, sym, ap, ap₂, ◌∙◌, subst}
+use mathlib.Core.Path.{◌≡◌, refl, sym, ap, ap₂, ◌∙◌, subst}
 use mathlib.Core.Logic.{◌≢◌, inl, inr}
-use mathlib.Core.Bool.{Bool}
-use mathlib.Core.List.{List}
+use mathlib.Core.Bool.{Bool, false}
+use mathlib.Core.List.{List, [], ◌++◌}
+use Rattle.std.specs.Prelude.{Option}
 use Prim.Native.Nat.{ℕ, ◌+◌, ◌-◌, ◌*◌, ◌≤◌, ◌<◌}
 use native.Mathlib.Nat.{le_refl, not-suc-le-zero}
 use native.Mathlib.Decide.{ℕ_discrete}
 use native.Mathlib.Omega.{arith}
-use lib.ListN.{length, get_or, take, drop}
-use lib.Seq.{ext_get_or, take_all}
+use lib.ListN.{length, get_or, take, drop, length-append, length-drop}
+use lib.Seq.{ext_get_or, take_all, take-append_seam}
 use lib.Dec.{eqb}
+use borrow.Author.Tests.{eqb-false}
 use borrow.Rule.Slice.PartMut.{put_mid}
-use Rattle.lists.specs.Tables.{table}
+use Rattle.lists.specs.Tables.{table, zeros}
 use Rattle.lists.specs.Order.{ranked}
 use Rattle.lists.specs.Parts.{block}
-use Rattle.lists.proofs.TableLaws.{length-table, get_or-table}
+use Rattle.lists.proofs.TableLaws.{length-table, length-zeros, get_or-table}
 use Rattle.lists.proofs.PartLaws.{block-get, length-block, blocks-agree, rows_apart, part-is, part_length}
 use Rattle.lists.proofs.OrderLaws.{ranked-alike}
 use Rattle.rule.specs.Layout.{notices_at}
@@ -22,12 +24,13 @@ use Rattle.filling.specs.Rows.{Named}
 use Rattle.filling.specs.Match.{Idle}
 use Rattle.filling.proofs.OnceLaws.{order-named}
 use Rattle.ranking.proofs.RankLaws.{length-ranked}
+use Rattle.matching.specs.declared.Match.{Match}
 use Rattle.ordering.specs.Ordered.{Orderable, Ordered, order_key}
 use Rattle.ordering.proofs.OrderLaws.{ordered-moved}
 use Rattle.rows.specs.Rows.{Becomes}
 use Rattle.rows.proofs.RowLaws.{lent-size, lent-in, lent_out}
 use Rattle.orders.specs.Sizes.{issues_in}
-use Rattle.orders.specs.Orders.{Same, notified_in, RankedAt, Orders, Rankable, key_in, OrderedAt, Loadable, Loaded, OrderAsked, OrderFor}
+use Rattle.orders.specs.Orders.{Same, notified_in, RankedAt, Orders, Rankable, key_in, OrderedAt, Loadable, Loaded, OrderAsked, in_row, OrderFor}
 
 -- ---- a row of a deliverer's issues, ranked
 
@@ -37,7 +40,7 @@ row-ranked notified row part h n e = sym (take_all (length notified) part (omega
 
 -- ---- the order of a deliverer's issues
 
-module _ {b before : List ℕ} {d : ℕ} {orders order₀ : List ℕ} (L : Loadable b before d orders order₀) where
+module _ {b before : List ℕ} {d : ℕ} {orders : List ℕ} (L : Loadable b before d orders) where
   abbrev m : ℕ
   m = issues_in b
 
@@ -127,18 +130,17 @@ module _ {b before : List ℕ} {d : ℕ} {orders order₀ : List ℕ} (L : Loada
     abbrev earlier : List ℕ
     earlier = take (at + m - at) (drop at before)
 
-    pub order-asks : Orderable notified earlier (take (at + m - at) (drop at back)) order₀
+    pub order-asks : Orderable notified earlier (take (at + m - at) (drop at back))
     order-asks = record {
       issues_most = omega (arith, notified-size, L.sized.issues);
       earlier = part_length before at m (row_fits before L.earlier) ∙ sym notified-size;
       notified_most = λ i l. let k : i < m = omega (arith, notified-size) in omega (arith, notified-at i k, L.notified_most i k);
       ranks = part-is back at m ∙ own_row ∙ sym ranks-are;
-      places = L.long;
     }
 
-    pub all-loaded : (preferential : Bool) {usable order : List ℕ} {count : ℕ}
-        → Ordered (length notified) (λ i. order_key preferential (get_or notified i 0) (get_or earlier i 0)) (λ i. get_or usable i 0) order count
-        → Loaded b before d preferential usable back order count
+    pub all-loaded : (preferential : Bool) {usable order : List ℕ}
+        → Ordered (length notified) (λ i. order_key preferential (get_or notified i 0) (get_or earlier i 0)) (λ i. get_or usable i 0) order
+        → Loaded b before d preferential usable back order
     all-loaded preferential o = record {
       ordered = ordered-moved notified-size
           (λ i l.
@@ -148,37 +150,42 @@ module _ {b before : List ℕ} {d : ℕ} {orders order₀ : List ℕ} (L : Loada
       kept = kept;
     }
 
--- ---- match j's order
+-- ---- a match's order
 
-module _ {b before cells : List ℕ} {j : ℕ} {usable : List ℕ} {count : ℕ} {orders order : List ℕ} (a : OrderAsked b before cells j usable count orders order) (all : ℕ) where
-  named-of : {order' : List ℕ} {n : ℕ} → OrderedAt b before cells j (λ i. get_or usable i 0) order' n → Named (issues_in b) n order'
-  named-of {order'} {n} o = order-named (issues_in b) n _ o.live order' o.places a.loadable.sized.issues o.few o.cells
+pub not-empty : (empty : Bool) (n : ℕ) → empty ≡ eqb n 0 → empty ≡ false → 0 < n
+not-empty empty n e f = omega (arith, eqb-false n 0 (sym e ∙ f))
 
-  -- the order of the match before is that of match j
-  pub still-listed : (0 < count) × Same cells j → OrderFor b before cells j usable all orders order count
-  still-listed h =
-      let o : OrderedAt b before cells j (λ i. get_or usable i 0) order count = a.last h.0 h.1 in
+-- an order in a row
+row-long : (order : List ℕ) → length order ≤ 32 → length (in_row order) ≡ 32
+row-long order h = length-append order (drop (length order) (zeros 32)) ∙ omega (arith, length-drop (length order) (zeros 32), length-zeros 32)
+
+module _ {b before : List ℕ} {last : Option Match} {m : Match} {usable orders order : List ℕ} (a : OrderAsked b before last m usable orders order) (all : ℕ) where
+  named-of : {order' : List ℕ} → OrderedAt b before m (λ i. get_or usable i 0) order' → Named (issues_in b) (length order') (in_row order')
+  named-of {order'} o =
+      order-named (issues_in b) (length order') _ o.live (in_row order') (row-long order' (omega (arith, o.few, a.loadable.sized.issues))) a.loadable.sized.issues o.few
+      (take-append_seam order' (drop (length order') (zeros 32)) ∙ o.names)
+
+  -- the order of the match before is that of match m
+  pub still-listed : 0 < length order → Same last m → OrderFor b before m usable all orders order
+  still-listed h s =
+      let o : OrderedAt b before m (λ i. get_or usable i 0) order = a.last_is h s in
       record { kept = a.loadable.kept; named = named-of o; fits = inl o; listed = λ z. o }
 
-  pub not-asked : Idle (get_or b 2 0) all (get_or cells (4 * j + 2) 0) → OrderFor b before cells j usable all orders order 0
-  not-asked h = record {
+  pub not-asked : {none : List ℕ} → Idle (get_or b 2 0) all m.amount.0 → none ≡ [] → OrderFor b before m usable all orders none
+  not-asked h e = rw e (record {
     kept = a.loadable.kept;
     named = record {
-      long = a.loadable.long;
+      long = row-long [] (omega arith);
       few = omega arith;
       inside = λ k l. absurd (not-suc-le-zero l);
       once = λ i k l. absurd (not-suc-le-zero l);
     };
     fits = inr h;
     listed = λ z. absurd (not-suc-le-zero z);
-  }
+  })
 
-  pub now-listed : {orders' order' : List ℕ} {n : ℕ} (preferential : Bool) → preferential ≡ eqb (get_or cells (4 * j + 3) 0) 1
-      → Loaded b before (get_or cells (4 * j) 0) preferential usable orders' order' n → OrderFor b before cells j usable all orders' order' n
-  now-listed {orders'} {order'} {n} preferential e l =
-      let o : OrderedAt b before cells j (λ i. get_or usable i 0) order' n =
-      subst (λ (p : Bool). Ordered (issues_in b) (key_in b before (get_or cells (4 * j) 0) p) (λ i. get_or usable i 0) order' n) e l.ordered in
-      record { kept = l.kept; named = named-of o; fits = inl o; listed = λ z. o }
+  pub now-listed : {orders' order' : List ℕ} → Loaded b before m.deliverer m.preferential usable orders' order' → OrderFor b before m usable all orders' order'
+  now-listed l = record { kept = l.kept; named = named-of l.ordered; fits = inl l.ordered; listed = λ z. l.ordered }
 
 -- ---- the rows of a run
 

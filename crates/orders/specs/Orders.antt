@@ -1,22 +1,21 @@
 -- The order of a deliverer's issues: what asking for it takes, and what it leaves. Assumes nothing.
-use Rattle.std.specs.Prelude.{◌≡◌, ◌⊎◌, Bool, List, ℕ, ◌+◌, ◌-◌, ◌*◌, ◌≤◌, ◌<◌, length, get_or, eqb}
+use Rattle.std.specs.Prelude.{◌≡◌, ◌⊎◌, Bool, List, ◌++◌, Option, Some, ℕ, ◌+◌, ◌-◌, ◌*◌, ◌≤◌, ◌<◌, length, get_or, drop}
+use Rattle.lists.specs.Tables.{zeros}
 use Rattle.lists.specs.Order.{ranked}
 use Rattle.lists.specs.Parts.{block}
 use Rattle.rule.specs.Layout.{notices_at}
+use Rattle.matching.specs.declared.Match.{Match}
 use Rattle.ordering.specs.Ordered.{Ordered, order_key}
 use Rattle.filling.specs.Rows.{Named}
 use Rattle.filling.specs.Match.{Idle}
 use Rattle.orders.specs.Sizes.{issues_in, Sized}
 
--- a place in the plan: at most 11 matches
-pub record Placed (j : ℕ) : Type 0 where
-  pub place : j < 11
-
--- match j follows one of the same deliverer and sort
-pub record Same (cells : List ℕ) (j : ℕ) : Type 0 where
-  pub second : 0 < j
-  pub deliverer : get_or cells (4 * (j - 1)) 0 ≡ get_or cells (4 * j) 0
-  pub sort : get_or cells (4 * (j - 1) + 3) 0 ≡ get_or cells (4 * j + 3) 0
+-- the match before m is of the same deliverer and sort
+pub record Same (last : Option Match) (m : Match) : Type 0 where
+  pub before : Match
+  pub there : last ≡ Some before
+  pub deliverer : before.deliverer ≡ m.deliverer
+  pub sort : before.preferential ≡ m.preferential
 
 -- participant d's notified lots of issue i
 abbrev pub notified_in : List ℕ → ℕ → ℕ → ℕ
@@ -41,33 +40,34 @@ pub record Rankable (notified row : List ℕ) : Type 0 where
 abbrev pub key_in : List ℕ → List ℕ → ℕ → Bool → ℕ → ℕ
 key_in b before d preferential i = order_key preferential (notified_in b d i) (get_or before (32 * d + i) 0)
 
--- the order is that of match j, where `may` is what may be used of each issue
-abbrev pub OrderedAt : List ℕ → List ℕ → List ℕ → ℕ → (ℕ → ℕ) → List ℕ → ℕ → Type 0
-OrderedAt b before cells j may order count = Ordered (issues_in b) (key_in b before (get_or cells (4 * j) 0) (eqb (get_or cells (4 * j + 3) 0) 1)) may order count
+-- the order is that of match m, where `may` is what may be used of each issue
+abbrev pub OrderedAt : List ℕ → List ℕ → Match → (ℕ → ℕ) → List ℕ → Type 0
+OrderedAt b before m may order = Ordered (issues_in b) (key_in b before m.deliverer m.preferential) may order
 
-pub record Loadable (b before : List ℕ) (d : ℕ) (orders order : List ℕ) : Type 0 where
+pub record Loadable (b before : List ℕ) (d : ℕ) (orders : List ℕ) : Type 0 where
   pub sized : Sized b
   pub deliverer : d < 12
   pub notified_most : (i : ℕ) → i < issues_in b → notified_in b d i ≤ 200_000_000
   pub earlier : length before ≡ 384
   pub kept : Orders b orders
-  pub long : length order ≡ 32
 
-pub record Loaded (b before : List ℕ) (d : ℕ) (preferential : Bool) (usable orders order : List ℕ) (count : ℕ) : Type 0 where
-  pub ordered : Ordered (issues_in b) (key_in b before d preferential) (λ i. get_or usable i 0) order count
+pub record Loaded (b before : List ℕ) (d : ℕ) (preferential : Bool) (usable orders order : List ℕ) : Type 0 where
+  pub ordered : Ordered (issues_in b) (key_in b before d preferential) (λ i. get_or usable i 0) order
   pub kept : Orders b orders
 
--- match j's order is asked for. That of the match before lists so many issues: if any, it is match j's too where the two are of the same
--- deliverer and sort
-pub record OrderAsked (b before cells : List ℕ) (j : ℕ) (usable : List ℕ) (count : ℕ) (orders order : List ℕ) : Type 0 where
-  pub place : j < 11
-  pub amount : get_or cells (4 * j + 2) 0 ≤ 10_000_000_000_000
-  pub loadable : Loadable b before (get_or cells (4 * j) 0) orders order
-  pub last : 0 < count → Same cells j → OrderedAt b before cells j (λ i. get_or usable i 0) order count
+-- match m's order is asked for. If that of the match before lists some issue, it is m's too where the two are of the same deliverer and sort
+pub record OrderAsked (b before : List ℕ) (last : Option Match) (m : Match) (usable orders order : List ℕ) : Type 0 where
+  pub amount : m.amount.0 ≤ 10_000_000_000_000
+  pub loadable : Loadable b before m.deliverer orders
+  pub last_is : 0 < length order → Same last m → OrderedAt b before m (λ i. get_or usable i 0) order
 
--- it is match j's, or filling does not go through it and it lists no issue
-pub record OrderFor (b before cells : List ℕ) (j : ℕ) (usable : List ℕ) (all : ℕ) (orders order : List ℕ) (count : ℕ) : Type 0 where
+-- an order in a row of 32 cells
+abbrev pub in_row : List ℕ → List ℕ
+in_row order = order ++ drop (length order) (zeros 32)
+
+-- it is match m's, or filling does not go through it and it lists no issue
+pub record OrderFor (b before : List ℕ) (m : Match) (usable : List ℕ) (all : ℕ) (orders order : List ℕ) : Type 0 where
   pub kept : Orders b orders
-  pub named : Named (issues_in b) count order
-  pub fits : OrderedAt b before cells j (λ i. get_or usable i 0) order count ⊎ Idle (get_or b 2 0) all (get_or cells (4 * j + 2) 0)
-  pub listed : 0 < count → OrderedAt b before cells j (λ i. get_or usable i 0) order count
+  pub named : Named (issues_in b) (length order) (in_row order)
+  pub fits : OrderedAt b before m (λ i. get_or usable i 0) order ⊎ Idle (get_or b 2 0) all m.amount.0
+  pub listed : 0 < length order → OrderedAt b before m (λ i. get_or usable i 0) order

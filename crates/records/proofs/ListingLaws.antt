@@ -10,23 +10,6 @@ use Rattle.lists.proofs.PartLaws.{length_over}
 use Rattle.lists.proofs.AppendLaws.{map-append, keep_append, joined-append, joined_length, up_to-more, over_none, over-more, over-one, over-next}
 use Rattle.records.specs.Listed.{line_for, lines_to, lines_for, LineRoom, Lined, LinesRoom, Listed}
 
--- ---- entries of three and of seven cells
-
-pub three-written : (b : List ℕ) (at x y z : ℕ) → at + 3 ≤ length b → set (set (set b at x) (at + 1) y) (at + 2) z ≡ over b at (x ∷ y ∷ z ∷ [])
-three-written b at x y z h =
-    ap (λ (l : List ℕ). set (set l (at + 1) y) (at + 2) z) (over-one b at x (omega arith))
-    ∙ ap (λ (l : List ℕ). set l (at + 2) z) (over-next b (x ∷ []) at y (omega arith))
-    ∙ over-next b (x ∷ y ∷ []) at z (omega arith)
-
-pub seven-written : (b : List ℕ) (at x y z u v w t : ℕ) → at + 7 ≤ length b
-    → set (set (set (set (set (set (set b at x) (at + 1) y) (at + 2) z) (at + 3) u) (at + 4) v) (at + 5) w) (at + 6) t ≡ over b at (x ∷ y ∷ z ∷ u ∷ v ∷ w ∷ t ∷ [])
-seven-written b at x y z u v w t h =
-    ap (λ (l : List ℕ). set (set (set (set l (at + 3) u) (at + 4) v) (at + 5) w) (at + 6) t) (three-written b at x y z (omega arith))
-    ∙ ap (λ (l : List ℕ). set (set (set l (at + 4) v) (at + 5) w) (at + 6) t) (over-next b (x ∷ y ∷ z ∷ []) at u (omega arith))
-    ∙ ap (λ (l : List ℕ). set (set l (at + 5) w) (at + 6) t) (over-next b (x ∷ y ∷ z ∷ u ∷ []) at v (omega arith))
-    ∙ ap (λ (l : List ℕ). set l (at + 6) t) (over-next b (x ∷ y ∷ z ∷ u ∷ v ∷ []) at w (omega arith))
-    ∙ over-next b (x ∷ y ∷ z ∷ u ∷ v ∷ w ∷ []) at t (omega arith)
-
 -- ---- the line of an issue, if it has lots
 
 pub lined-none : (b : List ℕ) (line number i : ℕ) {lots : ℕ} → lots ≡ 0 → Lined b b line number i lots line

@@ -29,6 +29,19 @@ pub record BookableLots (b : List ℕ) (d r i : ℕ) : Type 0 where
   pub apart : d ≢ r
   pub issue : i < 32
 
+-- two cells of a book
+pub record Shiftable (b : List ℕ) (from to : ℕ) : Type 0 where
+  pub from_within : from < length b
+  pub to_within : to < length b
+  pub apart : from ≢ to
+
+-- the one is less by an amount, the other more, in 64 bits
+pub record Shifted (b c : List ℕ) (from to amount : ℕ) : Type 0 where
+  pub size : length c ≡ length b
+  pub less : slice_index_or c from 0 ≡ (slice_index b from + (18446744073709551616 - amount)) % 18446744073709551616
+  pub more : slice_index_or c to 0 ≡ (slice_index b to + amount) % 18446744073709551616
+  pub kept : (j : ℕ) → j ≢ from → j ≢ to → slice_index c j ≡ slice_index b j
+
 -- yen left two positions, and a pair is marked if they are above 0
 pub record YenMoved (b c : List ℕ) (k d r yen : ℕ) : Type 0 where
   pub size : length c ≡ length b

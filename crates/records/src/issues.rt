@@ -3,6 +3,7 @@
 ghost use Rattle.records.specs.Issues.{IssueWritable, IssueWritten, IssuesWritable, IssuesWritten};
 
 use crate::{booking, listing};
+use matching::Match;
 use rule::Lots;
 
 // One issue's lots, if there are any. How many lines there are then.
@@ -10,21 +11,20 @@ fn write_issue(
     book: &mut [u64],
     used: &mut [u64],
     lines: &mut [u64],
-    deliverer: usize,
-    receiver: usize,
+    m: Match,
     number: u64,
     line: usize,
     issue: usize,
     lots: Lots,
 ) -> usize
-    requires { IssueWritable book.old used.old lines.old deliverer receiver line issue lots.0 }
-    ensures { IssueWritten book.old used.old lines.old deliverer receiver number line issue lots.0 book.new used.new lines.new result }
+    requires { IssueWritable book.old used.old lines.old m.deliverer m.receiver line issue lots.0 }
+    ensures { IssueWritten book.old used.old lines.old m.deliverer m.receiver number line issue lots.0 book.new used.new lines.new result }
 {
     if lots.0 == 0 {
         return line;
     }
-    booking::move_lots(book, deliverer, receiver, issue, lots);
-    let place = layout::MOST_ISSUES * deliverer + issue;
+    booking::move_lots(book, m, issue, lots);
+    let place = layout::MOST_ISSUES * m.deliverer + issue;
     used[place] = used[place] + lots.0;
     listing::write_line(lines, line, number, issue as u64, lots);
     line + 1
@@ -35,27 +35,25 @@ pub fn write_issues(
     book: &mut [u64],
     used: &mut [u64],
     lines: &mut [u64],
-    deliverer: usize,
-    receiver: usize,
+    m: Match,
     number: u64,
     first: usize,
     lots: &[u64],
 ) -> usize
-    requires { IssuesWritable book.old used.old lines.old deliverer receiver number first lots.now }
-    ensures { IssuesWritten book.old used.old lines.old deliverer receiver number first lots.now book.new used.new lines.new result }
+    requires { IssuesWritable book.old used.old lines.old m.deliverer m.receiver number first lots.now }
+    ensures { IssuesWritten book.old used.old lines.old m.deliverer m.receiver number first lots.now book.new used.new lines.new result }
 {
     let mut line = first;
-    for i in 0..lots.len() {
+    for (issue, taken) in lots.iter().enumerate() {
         line = write_issue(
             &mut *book,
             &mut *used,
             &mut *lines,
-            deliverer,
-            receiver,
+            m,
             number,
             line,
-            i,
-            Lots(lots[i]),
+            issue,
+            Lots(*taken),
         );
     }
     line

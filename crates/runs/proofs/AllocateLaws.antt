@@ -1,17 +1,19 @@
 -- Laws of the loop over a basket's matches. Assumes nothing.
 use mathlib.Core.Path.{◌≡◌, sym, ap, ◌∙◌, subst}
-use mathlib.Core.List.{List}
+use mathlib.Core.Bool.{Bool}
+use mathlib.Core.List.{List, []}
+use Rattle.std.specs.Prelude.{Option, Some}
+use Rattle.std.specs.Option.{unwrap_or}
 use Prim.Native.Nat.{ℕ, ◌+◌, ◌-◌, ◌*◌, ◌≤◌, ◌<◌}
 use native.Mathlib.Omega.{arith}
-use lib.ListN.{length, get_or, take}
-use lib.Dec.{eqb}
+use lib.ListN.{length, get_or, take, length-map}
 use Rattle.lists.specs.Tables.{zeros}
-use Rattle.lists.proofs.TableLaws.{length-table}
 use Rattle.rule.specs.Run.{Allocation, basket_plan}
 use Rattle.rule.specs.Layout.{view}
 use Rattle.filling.specs.Match.{FilledAs}
 use Rattle.filling.specs.declared.Filling.{Filling}
-use Rattle.matching.specs.Plans.{match_at}
+use Rattle.matching.specs.Plans.{match_of}
+use Rattle.matching.specs.declared.Match.{Match as Entry}
 use Rattle.ordering.specs.Ordered.{Ordered}
 use Rattle.orders.specs.Sizes.{issues_in}
 use Rattle.orders.specs.Orders.{Same, Orders, key_in, OrderedAt, OrderAsked, OrderFor}
@@ -21,65 +23,63 @@ use Rattle.runs.proofs.DoneLaws.{done-begin, done_end}
 use Rattle.runs.proofs.ReadLaws.{issues-kept}
 use Rattle.runs.proofs.RunningLaws.{may_use, usable-asks, orders-kept, order-asks, order-next, fill-asks, lots-wide, write-asks, running_more}
 
-module _ (k : ℕ) (b₁ cells : List ℕ) (count : ℕ) (rates inside allocable before orders₁ used₁ matches₁ lines₁ : List ℕ) (m₁ l₁ : ℕ) where
+module _ (k : ℕ) (b₁ : List ℕ) (made : List Entry) (rates inside allocable before orders₁ used₁ matches₁ lines₁ : List ℕ) (m₁ l₁ : ℕ) where
   abbrev Asks : Type 0
-  Asks = AllocateAsks k b₁ cells count rates inside allocable before orders₁ used₁ matches₁ lines₁ m₁ l₁
+  Asks = AllocateAsks k b₁ made rates inside allocable before orders₁ used₁ matches₁ lines₁ m₁ l₁
 
   -- the first j matches are filled, listed and booked, whatever book and lists the run began with; the order is that of the last of them, if it lists any issue
-  pub record Allocating (b orders used matches lines order : List ℕ) (listed : ℕ) (usable : List ℕ) (m l j : ℕ) : Type 0 where
-    pub here : j ≤ count
+  pub record Allocating (b orders used matches lines order : List ℕ) (last : Option Entry) (usable : List ℕ) (m l j : ℕ) : Type 0 where
+    pub here : j ≤ length made
     pub wide : length usable ≡ 32
-    pub long : length order ≡ 32
     pub running : (s : Asks) → Running s.b₀ s.m₀ s.l₀ (done_at (view s.b₀) s.draw k j) b used matches lines m l
     pub kept : (s : Asks) → Orders s.b₀ orders
-    pub last : (s : Asks) → 0 < listed → 0 < j → OrderedAt s.b₀ before cells (j - 1) (may_use inside allocable used (get_or cells (4 * (j - 1)) 0)) order listed
+    pub last_is : (s : Asks) → 0 < length order → (x : Entry) → last ≡ Some x → OrderedAt s.b₀ before x (may_use inside allocable used x.deliverer) order
 
-  pub allocating-none : {order usable : List ℕ} → length order ≡ 32 → length usable ≡ 32 → Allocating b₁ orders₁ used₁ matches₁ lines₁ order 0 usable m₁ l₁ 0
-  allocating-none e r = record {
+  pub allocating-none : {order usable : List ℕ} (last : Option Entry) → order ≡ [] → length usable ≡ 32 → Allocating b₁ orders₁ used₁ matches₁ lines₁ order last usable m₁ l₁ 0
+  allocating-none last e r = record {
     here = omega arith;
     wide = r;
-    long = e;
     running = λ s. subst (λ (x : List Allocation). Running s.b₀ s.m₀ s.l₀ x b₁ used₁ matches₁ lines₁ m₁ l₁) (sym (done-begin (view s.b₀) s.draw k)) s.begun.running;
     kept = λ s. s.begun.kept;
-    last = λ s t z. absurd (omega arith);
+    last_is = λ s t x z. absurd (omega (arith, ap length e));
   }
 
-  counted : (s : Asks) → length (basket_plan (view s.b₀) s.draw k) ≡ count
-  counted s = sym (ap length s.planning.planned.matches) ∙ length-table count (match_at cells)
+  counted : (s : Asks) → length (basket_plan (view s.b₀) s.draw k) ≡ length made
+  counted s = sym (ap length s.planning.planned) ∙ length-map made match_of
 
-  pub allocating-all : {b orders used matches lines order : List ℕ} {listed : ℕ} {usable₀ : List ℕ} {m l j : ℕ} → count ≤ j → Allocating b orders used matches lines order listed usable₀ m l j
+  pub allocating-all : {b orders used matches lines order : List ℕ} {last : Option Entry} {usable₀ : List ℕ} {m l j : ℕ} → length made ≤ j → Allocating b orders used matches lines order last usable₀ m l j
       → (s : Asks) → Done s.b₀ s.m₀ s.l₀ (done_to (view s.b₀) s.draw (k + 1)) b orders used matches lines m l
-  allocating-all {b} {orders} {used} {matches} {lines} {order} {listed} {usable₀} {m} {l} {j} h w s = record {
+  allocating-all {b} {orders} {used} {matches} {lines} {order} {last} {usable₀} {m} {l} {j} h w s = record {
     running = subst (λ (x : List Allocation). Running s.b₀ s.m₀ s.l₀ x b used matches lines m l) (done_end (view s.b₀) s.draw k j (omega (arith, counted s))) (w.running s);
     kept = w.kept s;
   }
 
-  module _ {b orders used matches lines order : List ℕ} {listed : ℕ} {usable₀ : List ℕ} {m l j : ℕ} (w : Allocating b orders used matches lines order listed usable₀ m l j) (h : j < count) where
-    pub usable-asked : Asks → UsableAsked b cells j rates inside allocable used usable₀
+  module _ {b orders used matches lines order : List ℕ} {last : Option Entry} {usable₀ : List ℕ} {m l j : ℕ} (w : Allocating b orders used matches lines order last usable₀ m l j) (e : Entry) (h : j < length made) (E : e ≡ get_or made j e) where
+    pub usable-asked : Asks → UsableAsked b e rates inside allocable used usable₀
     usable-asked s =
-        usable-asks s.b₀ s.draw s.m₀ s.l₀ s.begun.start k s.begun.basket cells count inside before s.planning j h rates allocable s.begun.tables
+        usable-asks s.b₀ s.draw s.m₀ s.l₀ s.begun.start k s.begun.basket made inside before s.planning j e h E rates allocable s.begun.tables
         b used matches lines m l (w.running s) usable₀ w.wide
 
-    module _ {usable : List ℕ} {all : ℕ} (U : UsableLots b cells j inside allocable used usable all) where
-      pub order-asked : Asks → OrderAsked b before cells j usable listed orders order
+    module _ {usable : List ℕ} {all : ℕ} (U : UsableLots b e inside allocable used usable all) where
+      pub order-asked : Asks → OrderAsked b before last e usable orders order
       order-asked s =
-          order-asks s.b₀ s.draw s.m₀ s.l₀ s.begun.start k s.begun.basket cells count inside before s.planning j h rates allocable s.begun.tables
-          b used matches lines m l (w.running s) usable all U listed orders order (w.kept s) w.long (λ x y. same y (w.last s x y.second))
+          order-asks s.b₀ s.draw s.m₀ s.l₀ s.begun.start k s.begun.basket made inside before s.planning j e h E rates allocable s.begun.tables
+          b used matches lines m l (w.running s) usable all U last orders order (w.kept s) (λ x y. same y (w.last_is s x y.before y.there))
         where
           -- the match before is of the same deliverer and sort
-          same : Same cells j → OrderedAt s.b₀ before cells (j - 1) (may_use inside allocable used (get_or cells (4 * (j - 1)) 0)) order listed
-              → OrderedAt s.b₀ before cells j (may_use inside allocable used (get_or cells (4 * j) 0)) order listed
+          same : (y : Same last e) → OrderedAt s.b₀ before y.before (may_use inside allocable used y.before.deliverer) order
+              → OrderedAt s.b₀ before e (may_use inside allocable used e.deliverer) order
           same y o =
-              subst (λ (x : ℕ). Ordered (issues_in s.b₀) (key_in s.b₀ before (get_or cells (4 * j) 0) (eqb x 1)) (may_use inside allocable used (get_or cells (4 * j) 0)) order listed) y.sort
-              (subst (λ (x : ℕ). Ordered (issues_in s.b₀) (key_in s.b₀ before x (eqb (get_or cells (4 * (j - 1) + 3) 0) 1)) (may_use inside allocable used x) order listed) y.deliverer o)
+              subst (λ (x : Bool). Ordered (issues_in s.b₀) (key_in s.b₀ before e.deliverer x) (may_use inside allocable used e.deliverer) order) y.sort
+              (subst (λ (x : ℕ). Ordered (issues_in s.b₀) (key_in s.b₀ before x y.before.preferential) (may_use inside allocable used x) order) y.deliverer o)
 
-    module _ {usable : List ℕ} {all : ℕ} (U : UsableLots b cells j inside allocable used usable all) {orders' order' : List ℕ} {listed' : ℕ} (O : OrderFor b before cells j usable all orders' order' listed') where
-      pub fill-asked : (lots : List ℕ) → lots ≡ zeros 32 → Asks → Fillable b cells j rates usable all order' listed' lots
-      fill-asked lots e s =
-          fill-asks s.b₀ s.draw s.m₀ s.l₀ s.begun.start k s.begun.basket cells count inside before s.planning j h rates allocable s.begun.tables
-          b used matches lines m l (w.running s) usable all U orders' order' listed' O lots e
+    module _ {usable : List ℕ} {all : ℕ} (U : UsableLots b e inside allocable used usable all) {orders' order' : List ℕ} (O : OrderFor b before e usable all orders' order') where
+      pub fill-asked : (lots : List ℕ) → lots ≡ zeros 32 → Asks → Fillable b e rates usable all order' lots
+      fill-asked lots v s =
+          fill-asks s.b₀ s.draw s.m₀ s.l₀ s.begun.start k s.begun.basket made inside before s.planning j e h E rates allocable s.begun.tables
+          b used matches lines m l (w.running s) usable all U orders' order' O lots v
 
-      module _ {f : Filling} {lots : List ℕ} (A : FilledAs (filled_in b k cells j usable order' listed') f lots) where
+      module _ {f : Filling} {lots : List ℕ} (A : FilledAs (filled_in b k e usable order') f lots) where
         -- the code has the number of issues from the book as the basket began
         issues-same : (s : Asks) → get_or b₁ 1 0 ≡ issues_in s.b₀
         issues-same s = issues-kept s.b₀ s.begun.start.book _ b₁ s.begun.running.booked
@@ -90,38 +90,34 @@ module _ (k : ℕ) (b₁ cells : List ℕ) (count : ℕ) (rates inside allocable
               arith,
               issues-same s,
               s.begun.start.book.sizes.most,
-              lots-wide s.b₀ s.draw s.m₀ s.l₀ s.begun.start k s.begun.basket cells count inside before s.planning j h rates allocable s.begun.tables
-                  b used matches lines m l (w.running s) usable all U orders' order' listed' O f lots A,
+              lots-wide s.b₀ s.draw s.m₀ s.l₀ s.begun.start k s.begun.basket made inside before s.planning j e h E rates allocable s.begun.tables
+                  b used matches lines m l (w.running s) usable all U orders' order' O f lots A,
             )
 
-        pub write-asked : Asks → Writable b k cells j f (take (get_or b₁ 1 0) lots) used matches lines m l
+        pub write-asked : Asks → Writable b k e f (take (get_or b₁ 1 0) lots) used matches lines m l
         write-asked s =
-            write-asks s.b₀ s.draw s.m₀ s.l₀ s.begun.start k s.begun.basket cells count inside before s.planning j h rates allocable s.begun.tables
-            b used matches lines m l (w.running s) usable all U orders' order' listed' O f lots A (take (get_or b₁ 1 0) lots) (ap (λ (x : ℕ). take x lots) (issues-same s))
+            write-asks s.b₀ s.draw s.m₀ s.l₀ s.begun.start k s.begun.basket made inside before s.planning j e h E rates allocable s.begun.tables
+            b used matches lines m l (w.running s) usable all U orders' order' O f lots A (take (get_or b₁ 1 0) lots) (ap (λ (x : ℕ). take x lots) (issues-same s))
 
-        pub allocating-more : {b' used' matches' lines' : List ℕ} {m' l' : ℕ} → Wrote b k cells j f (take (get_or b₁ 1 0) lots) used matches lines m l b' used' matches' lines' m' l'
-            → Allocating b' orders' used' matches' lines' order' listed' usable m' l' (j + 1)
+        pub allocating-more : {b' used' matches' lines' : List ℕ} {m' l' : ℕ} → Wrote b k e f (take (get_or b₁ 1 0) lots) used matches lines m l b' used' matches' lines' m' l'
+            → Allocating b' orders' used' matches' lines' order' (Some e) usable m' l' (j + 1)
         allocating-more {b'} {used'} {matches'} {lines'} {m'} {l'} W = record {
           here = omega arith;
           wide = U.wide;
-          long = O.named.long;
           running = λ s.
-              running_more s.b₀ s.draw s.m₀ s.l₀ s.begun.start k s.begun.basket cells count inside before s.planning j h rates allocable s.begun.tables
-              b used matches lines m l (w.running s) usable all U orders' order' listed' O f lots A (take (get_or b₁ 1 0) lots) (ap (λ (x : ℕ). take x lots) (issues-same s)) b' used' matches' lines' m' l' W;
+              running_more s.b₀ s.draw s.m₀ s.l₀ s.begun.start k s.begun.basket made inside before s.planning j e h E rates allocable s.begun.tables
+              b used matches lines m l (w.running s) usable all U orders' order' O f lots A (take (get_or b₁ 1 0) lots) (ap (λ (x : ℕ). take x lots) (issues-same s)) b' used' matches' lines' m' l' W;
           kept = λ s.
-              orders-kept s.b₀ s.draw s.m₀ s.l₀ s.begun.start k s.begun.basket cells count inside before s.planning j h rates allocable s.begun.tables
+              orders-kept s.b₀ s.draw s.m₀ s.l₀ s.begun.start k s.begun.basket made inside before s.planning j e h E rates allocable s.begun.tables
               b used matches lines m l (w.running s) orders' O.kept;
-          last = λ s x z. subst (λ (i : ℕ). OrderedAt s.b₀ before cells i (may_use inside allocable used' (get_or cells (4 * i) 0)) order' listed') back
-              (order-next s.b₀ s.draw s.m₀ s.l₀ s.begun.start k s.begun.basket cells count inside before s.planning j h rates allocable s.begun.tables
-              b used matches lines m l (w.running s) usable all U orders' order' listed' O f lots A (take (get_or b₁ 1 0) lots) (ap (λ (x : ℕ). take x lots) (issues-same s)) b' used' matches' lines' m' l' W x);
+          last_is = λ s x p z. subst (λ (q : Entry). OrderedAt s.b₀ before q (may_use inside allocable used' q.deliverer) order') (ap (λ (o : Option Entry). unwrap_or o e) z)
+              (order-next s.b₀ s.draw s.m₀ s.l₀ s.begun.start k s.begun.basket made inside before s.planning j e h E rates allocable s.begun.tables
+              b used matches lines m l (w.running s) usable all U orders' order' O f lots A (take (get_or b₁ 1 0) lots) (ap (λ (x : ℕ). take x lots) (issues-same s)) b' used' matches' lines' m' l' W x);
         }
-          where
-            back : j ≡ j + 1 - 1
-            back = omega arith
 
   -- ---- the lengths of what is lent stay
 
-  module _ {b orders used matches lines order : List ℕ} {listed : ℕ} {usable₀ : List ℕ} {m l j : ℕ} (w : Allocating b orders used matches lines order listed usable₀ m l j) (s : Asks) where
+  module _ {b orders used matches lines order : List ℕ} {last : Option Entry} {usable₀ : List ℕ} {m l j : ℕ} (w : Allocating b orders used matches lines order last usable₀ m l j) (s : Asks) where
     pub book-size : length b ≡ length b₁
     book-size = (w.running s).booked.size ∙ sym s.begun.running.booked.size
 

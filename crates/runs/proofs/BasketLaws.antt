@@ -1,6 +1,6 @@
 -- Laws of a basket's step. Assumes nothing.
 use mathlib.Core.Path.{◌≡◌, sym, ap, ◌∙◌, subst}
-use mathlib.Core.List.{List, ◌++◌, map}
+use mathlib.Core.List.{List, [], ◌++◌, map}
 use Prim.Native.Nat.{ℕ, ◌+◌, ◌*◌, ◌≤◌, ◌<◌}
 use native.Mathlib.Omega.{arith}
 use lib.ListN.{length, get_or, take, drop, length-append, length-drop, length-map, get_or-append}
@@ -17,7 +17,9 @@ use Rattle.rule.specs.Layout.{pairs_at, positions_at, plus, minus, view}
 use Rattle.rule.proofs.BookLaws.{SoundBook}
 use Rattle.rule.proofs.DrawLaws.{EachOnce}
 use Rattle.rule.proofs.MatchingLaws.{few_matches}
-use Rattle.matching.specs.Plans.{match_at, Planned}
+use Rattle.matching.specs.Plans.{match_of, Planned}
+use Rattle.matching.specs.declared.Match.{Match as Entry}
+use Rattle.arrayvec.specs.ArrayVec.{ArrayVec}
 use Rattle.matching.proofs.CallerLaws.{signed-one-zero}
 use Rattle.rows.specs.Rows.{Becomes}
 use Rattle.stock.specs.Stock.{inside_of, Issues}
@@ -50,30 +52,16 @@ module _ (k : ℕ) (b draw rates allocable orders used' matches lines : List ℕ
 
   -- ---- the plan
 
-  pub plan-asked : (cells : List ℕ) → 44 ≤ length cells → Plannable b draw k cells
-  plan-asked cells room = record {
+  pub plan-asked : (made : ArrayVec Entry) → made.items ≡ [] → Plannable b draw k made
+  plan-asked made empty = record {
     sized = sized-kept b₀ sound done b booked;
-    room = room;
+    empty = empty;
     basket = s.begun.basket;
     drawn = subst (EachOnce draw) (sym (participants-kept b₀ sound done b booked)) s.begun.start.once;
   }
 
   plan-same : plan_in b draw k ≡ basket_plan (view b₀) draw k
   plan-same = plan-kept b₀ sound done b booked k s.begun.basket (λ p. nothing-covered (view b₀) draw k p) draw
-
-  plan-few : length (plan_in b draw k) ≤ 11
-  unfolding plan_in
-  plan-few =
-      let q : ℕ = participants_in b in
-      let size : length (positions_in b k) ≡ q = length-block b (positions_at + 12 * k) q (omega (arith, booked.size, s.begun.basket, participants-kept b₀ sound done b booked, sound.sizes.few)) in
-      omega (
-        arith,
-        few_matches (get_or b 2 0) (grid b (pairs_at + 144 * k) 12 q q) draw (map plus (positions_in b k)) (map minus (positions_in b k))
-            (length-map (positions_in b k) minus ∙ sym (length-map (positions_in b k) plus)) (signed-one-zero (positions_in b k)),
-        length-map (positions_in b k) plus,
-        participants-kept b₀ sound done b booked,
-        sound.sizes.few,
-      )
 
   -- ---- the issues of the basket
 
@@ -99,33 +87,27 @@ module _ (k : ℕ) (b draw rates allocable orders used' matches lines : List ℕ
 
     -- ---- the matches
 
-    pub allocate-asked : {cells before : List ℕ} {count : ℕ} → Planned (plan_in b draw k) cells count → before ≡ block used' 0 384
-        → AllocateAsks k b cells count rates inside allocable before orders used' matches lines m l
-    allocate-asked {cells} {before} {count} p e = record {
+    pub allocate-asked : {made : ArrayVec Entry} {lent : List Entry} {before : List ℕ} → Planned (plan_in b draw k) made → lent ≡ made.items → before ≡ used'
+        → AllocateAsks k b lent rates inside allocable before orders used' matches lines m l
+    allocate-asked p l e = record {
       b₀ = s.b₀;
       draw = draw;
       m₀ = s.m₀;
       l₀ = s.l₀;
       begun = s.begun;
       planning = record {
-        planned = record { matches = p.matches ∙ plan-same; room = p.room };
-        few = omega (arith, plan-few, ap length p.matches, length-table count (match_at cells));
+        planned = ap (map match_of) l ∙ p.matches ∙ plan-same;
         wide = inside-wide;
         inside_at = inside_at;
-        earlier = ap length e ∙ length-block used' 0 384 (omega (arith, s.begun.running.places));
-        before_at = λ d i x v.
-            ap (λ (q : List ℕ). get_or q (32 * d + i) 0) e ∙ block-get used' 0 384 (32 * d + i) (omega (arith, sound.sizes.few, sound.sizes.most))
-            ∙ ap (λ (q : ℕ). get_or used' q 0) (zero-first (32 * d + i)) ∙ s.begun.running.gone d i x v;
+        earlier = ap length e ∙ s.begun.running.places;
+        before_at = λ d i x v. ap (λ (q : List ℕ). get_or q (32 * d + i) 0) e ∙ s.begun.running.gone d i x v;
       };
     }
-      where
-        zero-first : (x : ℕ) → 0 + x ≡ x
-        zero-first x = omega arith
 
     -- what the loop leaves
-    pub basket-done : {cells before : List ℕ} {count : ℕ} → Planned (plan_in b draw k) cells count → before ≡ block used' 0 384 → {b' orders' used'' matches' lines' : List ℕ} {m' l' : ℕ}
-        → ((t : AllocateAsks k b cells count rates inside allocable before orders used' matches lines m l)
+    pub basket-done : {made : ArrayVec Entry} {lent : List Entry} {before : List ℕ} → Planned (plan_in b draw k) made → lent ≡ made.items → before ≡ used' → {b' orders' used'' matches' lines' : List ℕ} {m' l' : ℕ}
+        → ((t : AllocateAsks k b lent rates inside allocable before orders used' matches lines m l)
         → Done t.b₀ t.m₀ t.l₀ (done_to (view t.b₀) t.draw (k + 1)) b' orders' used'' matches' lines' m' l')
         → Done s.b₀ s.m₀ s.l₀ (done_to (view s.b₀) draw (k + 1)) b' orders' used'' matches' lines' m' l'
     unfolding allocate-asked
-    basket-done p e f = f (allocate-asked p e)
+    basket-done p l e f = f (allocate-asked p l e)

@@ -6,7 +6,7 @@ use mathlib.Core.List.{List, [], ◌∷◌, ◌++◌}
 use Prim.Native.Nat.{ℕ, ◌+◌, ◌-◌, ◌*◌, ◌<◌}
 use native.Mathlib.Nat.{le_refl}
 use native.Mathlib.Omega.{arith}
-use lib.ListN.{length, get_or, take}
+use lib.ListN.{length, get_or, take, length-map}
 use lib.Seq.{get_or-take}
 use lib.Dec.{eqb}
 use Rattle.lists.specs.Tests.{pick}
@@ -14,7 +14,7 @@ use Rattle.lists.specs.Tables.{table, row, cell}
 use Rattle.lists.specs.Folds.{keep, Every}
 use Rattle.lists.specs.Order.{ranked}
 use Rattle.lists.specs.Parts.{block}
-use Rattle.lists.proofs.TableLaws.{get_or-table, length-table}
+use Rattle.lists.proofs.TableLaws.{get_or-table, get_d_map}
 use Rattle.lists.proofs.PartLaws.{blocks-agree, table-agree}
 use Rattle.rule.specs.Value.{Terms, no_terms}
 use Rattle.rule.specs.Baskets.{within}
@@ -26,8 +26,8 @@ use Rattle.rule.specs.Layout.{notices_at, view}
 use Rattle.rule.proofs.LayoutLaws.{view-shaped, view-signed}
 use Rattle.rule.proofs.RunLaws.{Runnable, Allocated, allocated}
 use Rattle.rule.proofs.RunLots.{used-append, used-cell}
-use Rattle.matching.specs.Plans.{match_at}
-use Rattle.matching.proofs.CallerLaws.{planned-at}
+use Rattle.matching.specs.Plans.{match_of}
+use Rattle.matching.specs.declared.Match.{Match as Entry}
 use Rattle.filling.specs.Match.{Idle}
 use Rattle.filling.proofs.KeptLaws.{filled-kept}
 use Rattle.ordering.specs.Ordered.{Ordered, order_key}
@@ -61,8 +61,8 @@ flag : (w : Bool) → eqb (pick {X = ℕ} w 1 0) 1 ≡ w
 flag true = refl
 flag false = refl
 
-module _ (b draw m₀ l₀ : List ℕ) (S : Start b draw m₀ l₀) (k : ℕ) (basket : k < 7) (cells : List ℕ) (count : ℕ) (inside before : List ℕ)
-    (P : Planning b draw k cells count inside before) (j : ℕ) (l : j < count) where
+module _ (b draw m₀ l₀ : List ℕ) (S : Start b draw m₀ l₀) (k : ℕ) (basket : k < 7) (made : List Entry) (inside before : List ℕ)
+    (P : Planning b draw k made inside before) (j : ℕ) (e : Entry) (l : j < length made) (E : e ≡ get_or made j e) where
   abbrev y : Day
   y = view b
 
@@ -70,54 +70,58 @@ module _ (b draw m₀ l₀ : List ℕ) (S : Start b draw m₀ l₀) (k : ℕ) (b
   m = issues_in b
 
   abbrev d : ℕ
-  d = get_or cells (4 * j) 0
+  d = e.deliverer
 
   abbrev done : List Allocation
   done = done_at (view b) draw k j
 
-  -- the match that stands in the cells, filled
+  -- the match of the plan, filled
   abbrev pub next : Allocation
-  next = next_of (view b) draw k j (match_at cells j)
+  next = next_of (view b) draw k j (match_of e)
 
-  counted : length (basket_plan (view b) draw k) ≡ count
-  counted = sym (ap length P.planned.matches) ∙ length-table count (match_at cells)
+  counted : length (basket_plan (view b) draw k) ≡ length made
+  counted = sym (ap length P.planned) ∙ length-map made match_of
+
+  planned-here : match_of e ≡ get_or (basket_plan (view b) draw k) j (match_of e)
+  planned-here =
+      ap match_of E ∙ sym (get_d_map match_of made j e (match_of e) l) ∙ ap (λ (ms : List Match). get_or ms j (match_of e)) P.planned
 
   pub next-is : done_at (view b) draw k (j + 1) ≡ done ++ (next ∷ [])
   next-is =
-      done_next (view b) draw k j (match_at cells j) (omega (arith, counted))
-      ∙ ap (λ (x : Match). done ++ (next_of (view b) draw k j x ∷ [])) (sym (planned-at P.planned j (match_at cells j) l))
+      done_next (view b) draw k j (match_of e) (omega (arith, counted))
+      ∙ ap (λ (x : Match). done ++ (next_of (view b) draw k j x ∷ [])) (sym planned-here)
 
   pub next-part : Part (view b) draw (done ++ (next ∷ []))
-  next-part = subst (Part (view b) draw) next-is (part_at (view b) draw k (j + 1) basket (omega (arith, counted)) (match_at cells j))
+  next-part = subst (Part (view b) draw) next-is (part_at (view b) draw k (j + 1) basket (omega (arith, counted)) (match_of e))
 
   pub next-allocated : Allocated (view b) next
   next-allocated = last_of (Allocated (view b)) done next (part-every (view b) draw (Allocated (view b)) next-part (allocated (view b) draw (runnable b draw m₀ l₀ S)))
 
-  -- what stands in the cells
+  -- what it says
   pub next-deliverer : next.match.deliverer ≡ d
-  unfolding next_of allocate match_at
+  unfolding next_of allocate
   next-deliverer = refl
 
-  pub next-receiver : next.match.receiver ≡ get_or cells (4 * j + 1) 0
-  unfolding next_of allocate match_at
+  pub next-receiver : next.match.receiver ≡ e.receiver
+  unfolding next_of allocate
   next-receiver = refl
 
-  pub next-amount : next.match.amount ≡ get_or cells (4 * j + 2) 0
-  unfolding next_of allocate match_at
+  pub next-amount : next.match.amount ≡ e.amount.0
+  unfolding next_of allocate
   next-amount = refl
 
   pub deliverer-of-day : d < participants_in b
   unfolding view
   deliverer-of-day = omega (arith, next-allocated.deliverer, next-deliverer)
 
-  pub receiver-of-day : get_or cells (4 * j + 1) 0 < participants_in b
+  pub receiver-of-day : e.receiver < participants_in b
   unfolding view
   receiver-of-day = omega (arith, next-allocated.receiver, next-receiver)
 
   -- ---- filled as the definition fills it
 
   module _ (rates allocable : List ℕ) (T : Tables b rates allocable) (c used' matches lines : List ℕ) (n q : ℕ) (R : Running b m₀ l₀ done c used' matches lines n q)
-      (usable' : List ℕ) (all : ℕ) (U : UsableLots c cells j inside allocable used' usable' all) (orders order : List ℕ) (listed : ℕ) (O : OrderFor c before cells j usable' all orders order listed) where
+      (usable' : List ℕ) (all : ℕ) (U : UsableLots c e inside allocable used' usable' all) (orders order : List ℕ) (O : OrderFor c before e usable' all orders order) where
     used-here : (i : ℕ) → i < m → get_or used' (32 * d + i) 0 ≡ cell (used_table (view b).given (done_to (view b) draw k)) d i + used (done_in (view b) draw k j) d i
     unfolding done_at view
     used-here i h =
@@ -157,7 +161,7 @@ module _ (b draw m₀ l₀ : List ℕ) (S : Start b draw m₀ l₀) (k : ℕ) (b
         notices-kept b S.book done c R.booked (notices_at + 32 * d + i) (omega arith) (omega (arith, deliverer-of-day, S.book.sizes.few, S.book.sizes.most))
 
     abbrev pref : Bool
-    pref = eqb (get_or cells (4 * j + 3) 0) 1
+    pref = e.preferential
 
     abbrev o : List ℕ
     o = issue_order (view b) (used_table (view b).given (done_to (view b) draw k)) pref d
@@ -165,7 +169,7 @@ module _ (b draw m₀ l₀ : List ℕ) (S : Start b draw m₀ l₀) (k : ℕ) (b
     abbrev key : ℕ → ℕ
     key = key_in b before d pref
 
-    order-moved : OrderedAt c before cells j (λ i. get_or usable' i 0) order listed → Ordered m key (λ i. get_or usable' i 0) order listed
+    order-moved : OrderedAt c before e (λ i. get_or usable' i 0) order → Ordered m key (λ i. get_or usable' i 0) order
     order-moved h =
         ordered-moved issues-same
         (λ i l. ap (λ (x : ℕ). order_key pref x (get_or before (32 * d + i) 0)) (notice-same i (omega (arith, issues-same)))) (λ i l. le_refl _) h
@@ -184,24 +188,24 @@ module _ (b draw m₀ l₀ : List ℕ) (S : Start b draw m₀ l₀) (k : ℕ) (b
     runs_same = low-kept b S.book done c R.booked 2 (omega arith) ∙ sym (runs-read b)
 
     abbrev amount : ℕ
-    amount = get_or cells (4 * j + 2) 0
+    amount = e.amount.0
 
     abbrev with-order : List ℕ → Filled
     with-order x = filled (get_or c 2 0) pref (book_terms c) (take (issues_in c) usable') x (forced_issue k (book_terms c) (block c (notices_at + 32 * d) (issues_in c))) amount
 
     -- an issue that the order leaves out takes nothing in its turn
-    order-kept : (h : Ordered m key (λ i. get_or usable' i 0) order listed) → with-order (keep h.live (ranked key m)) ≡ with-order (ranked key m)
+    order-kept : (h : Ordered m key (λ i. get_or usable' i 0) order) → with-order (keep h.live (ranked key m)) ≡ with-order (ranked key m)
     order-kept h =
         filled-kept (get_or c 2 0) pref (book_terms c) (take (issues_in c) usable') (ranked key m) h.live (forced_issue k (book_terms c) (block c (notices_at + 32 * d) (issues_in c))) amount
         (every_map (λ i. i < m) (λ i. h.live i ≡ false → get_or (take (issues_in c) usable') i 0 ≡ 0)
         (λ i l e. get_or-take (issues_in c) usable' i 0 (omega (arith, issues-same)) ∙ h.rest i l e) (ranked key m) (ranked-below key m))
 
-    order-right : OrderedAt c before cells j (λ i. get_or usable' i 0) order listed ⊎ Idle (get_or c 2 0) all amount → with-order (take listed order) ≡ with-order o
-    order-right (inl h) = ap with-order (order-moved h).cells ∙ order-kept (order-moved h) ∙ ap with-order (order-of pref)
-    order-right (inr h) = h.same pref (book_terms c) (take (issues_in c) usable') (take listed order) o _ U.worth_is
+    order-right : OrderedAt c before e (λ i. get_or usable' i 0) order ⊎ Idle (get_or c 2 0) all amount → with-order order ≡ with-order o
+    order-right (inl h) = ap with-order (order-moved h).names ∙ order-kept (order-moved h) ∙ ap with-order (order-of pref)
+    order-right (inr h) = h.same pref (book_terms c) (take (issues_in c) usable') order o _ U.worth_is
 
-    pub next-filled : filled_in c k cells j usable' order listed ≡ next.filled
-    unfolding filled_in next_of allocate match_at
+    pub next-filled : filled_in c k e usable' order ≡ next.filled
+    unfolding filled_in next_of allocate
     next-filled =
         let u : List ℕ = usable (view b) k (used_table (view b).given (done_to (view b) draw k)) (done_in (view b) draw k j) d in
         order-right O.fits

@@ -6,7 +6,7 @@ use Prim.Native.Nat.{ℕ, ◌+◌, ◌-◌, ◌*◌, ◌≤◌, ◌<◌}
 use native.Mathlib.Nat.{not-suc-le-zero}
 use native.Mathlib.Decide.{ℕ_discrete}
 use native.Mathlib.Omega.{arith}
-use lib.ListN.{length, get_or, set, take, drop, length-set}
+use lib.ListN.{length, get_or, set, take, drop, replicate, length-set, length-replicate, get_or-replicate}
 use lib.Seq.{get_or-set_same, get_or-set_other}
 use borrow.Rule.Slice.PartMut.{put_mid}
 use lib.Dec.{ltb}
@@ -14,7 +14,7 @@ use Rattle.lists.specs.Tests.{pick}
 use Rattle.lists.specs.Tables.{table, zeros, row, cell}
 use Rattle.lists.specs.Folds.{joined, Every}
 use Rattle.lists.specs.Parts.{block}
-use Rattle.lists.proofs.TableLaws.{get_or-table, get_or-zeros, length-zeros}
+use Rattle.lists.proofs.TableLaws.{get_or-table, get_or-zeros}
 use Rattle.lists.proofs.PartLaws.{Outside, Stands, length-block}
 use mathlib.Core.Bool.{true}
 use Rattle.rule.specs.Value.{Terms}
@@ -120,7 +120,7 @@ module _ (b : List ℕ) (s : Sized b) where
     pub cleared-room : at + m ≤ length c
     cleared-room = omega (arith, w.size, s.cells, s.participants, s.issues)
 
-    pub cleared_more : (part : List ℕ) → part ≡ zeros (length (take (at + m - at) (drop at c))) → ClearedTo b (put_mid at (at + m - at) c part) (p + 1)
+    pub cleared_more : (part : List ℕ) → part ≡ replicate (length (take (at + m - at) (drop at c))) 0 → ClearedTo b (put_mid at (at + m - at) c part) (p + 1)
     cleared_more part e = record {
       here = omega arith;
       size = lent-size P c at m part cleared-room v ∙ w.size;
@@ -134,7 +134,7 @@ module _ (b : List ℕ) (s : Sized b) where
         P i q = q ≡ 0
 
         v : Becomes P (take (at + m - at) (drop at c)) part
-        v = record { size = ap length e ∙ length-zeros (length (take (at + m - at) (drop at c))); cells = λ i z. ap (λ (o : List ℕ). get_or o i 0) e ∙ get_or-zeros (length (take (at + m - at) (drop at c))) i }
+        v = record { size = ap length e ∙ length-replicate (length (take (at + m - at) (drop at c))) 0; cells = λ i z. ap (λ (o : List ℕ). get_or o i 0) e ∙ get_or-replicate (length (take (at + m - at) (drop at c))) i 0 0 z }
 
         cases : (q i : ℕ) → q < p + 1 → i < m → Dec (q ≡ p) → get_or (put_mid at (at + m - at) c part) (notices_at + 32 * q + i) 0 ≡ 0
         cases q i y z (yes f) =

@@ -7,6 +7,7 @@ use Prim.Native.Nat.{ℕ, ◌+◌, ◌-◌, ◌*◌, ◌≤◌, ◌<◌}
 use native.Mathlib.Decide.{ℕ_discrete}
 use native.Mathlib.Omega.{arith}
 use lib.ListN.{length, get_or, take, length-append}
+use Rattle.std.specs.Prelude.{Option}
 use lib.Seq.{get_or-set_same, get_or-take}
 use lib.Dec.{eqb}
 use borrow.Author.Tests.{eq-eqb, ne_eqb}
@@ -25,7 +26,8 @@ use Rattle.rule.specs.Layout.{receipts_at, notices_at, view}
 use Rattle.rule.proofs.RunLaws.{Runnable, Allocated, matched-from, few-allocations}
 use Rattle.rule.proofs.RunLots.{used-most, lots-from-most}
 use Rattle.rule.proofs.RunLists.{few_lines}
-use Rattle.matching.specs.Plans.{match_at}
+use Rattle.matching.specs.Plans.{match_of}
+use Rattle.matching.specs.declared.Match.{Match as Entry}
 use Rattle.value.specs.Rated.{Rates}
 use Rattle.filling.specs.Match.{FilledAs}
 use Rattle.filling.specs.declared.Filling.{Filling}
@@ -61,47 +63,47 @@ usable-falls inside allocable used used' h = cases (eqb inside 1)
     cases true = omega arith
     cases false = omega arith
 
-module _ (b draw m₀ l₀ : List ℕ) (S : Start b draw m₀ l₀) (k : ℕ) (basket : k < 7) (cells : List ℕ) (count : ℕ) (inside before : List ℕ)
-    (P : Planning b draw k cells count inside before) (j : ℕ) (l : j < count) (rates allocable : List ℕ) (T : Tables b rates allocable) where
+module _ (b draw m₀ l₀ : List ℕ) (S : Start b draw m₀ l₀) (k : ℕ) (basket : k < 7) (made : List Entry) (inside before : List ℕ)
+    (P : Planning b draw k made inside before) (j : ℕ) (e : Entry) (l : j < length made) (E : e ≡ get_or made j e) (rates allocable : List ℕ) (T : Tables b rates allocable) where
   abbrev m : ℕ
   m = issues_in b
 
   abbrev d : ℕ
-  d = get_or cells (4 * j) 0
+  d = e.deliverer
 
   abbrev r : ℕ
-  r = get_or cells (4 * j + 1) 0
+  r = e.receiver
 
   abbrev pref : Bool
-  pref = eqb (get_or cells (4 * j + 3) 0) 1
+  pref = e.preferential
 
   abbrev done : List Allocation
   done = done_at (view b) draw k j
 
   abbrev a : Allocation
-  a = next b draw m₀ l₀ S k basket cells count inside before P j l
+  a = next b draw m₀ l₀ S k basket made inside before P j e l E
 
   h : Runnable (view b) draw
   h = runnable b draw m₀ l₀ S
 
   part : Part (view b) draw (done ++ (a ∷ []))
-  part = next-part b draw m₀ l₀ S k basket cells count inside before P j l
+  part = next-part b draw m₀ l₀ S k basket made inside before P j e l E
 
   z : Allocated (view b) a
-  z = next-allocated b draw m₀ l₀ S k basket cells count inside before P j l
+  z = next-allocated b draw m₀ l₀ S k basket made inside before P j e l E
 
   deliverer : d < participants_in b
-  deliverer = deliverer-of-day b draw m₀ l₀ S k basket cells count inside before P j l
+  deliverer = deliverer-of-day b draw m₀ l₀ S k basket made inside before P j e l E
 
   receiver : r < participants_in b
-  receiver = receiver-of-day b draw m₀ l₀ S k basket cells count inside before P j l
+  receiver = receiver-of-day b draw m₀ l₀ S k basket made inside before P j e l E
 
-  amount : get_or cells (4 * j + 2) 0 ≡ a.match.amount
-  amount = sym (next-amount b draw m₀ l₀ S k basket cells count inside before P j l)
+  amount : e.amount.0 ≡ a.match.amount
+  amount = sym (next-amount b draw m₀ l₀ S k basket made inside before P j e l E)
 
   -- ---- bounds, from the whole run
 
-  amount_most : get_or cells (4 * j + 2) 0 ≤ 10_000_000_000_000
+  amount_most : e.amount.0 ≤ 10_000_000_000_000
   unfolding view
   amount_most =
       let f : Allocation → ℕ = λ x. pick (eqb x.basket a.basket && eqb x.match.deliverer a.match.deliverer) x.match.amount 0 in
@@ -132,13 +134,13 @@ module _ (b draw m₀ l₀ : List ℕ) (S : Start b draw m₀ l₀) (k : ℕ) (b
   unfolding used
   used-more i =
       more_yes (λ x. eqb x.match.deliverer d) (λ x. get_or x.filled.lots i 0) done a
-      (eq-eqb a.match.deliverer d (next-deliverer b draw m₀ l₀ S k basket cells count inside before P j l))
+      (eq-eqb a.match.deliverer d (next-deliverer b draw m₀ l₀ S k basket made inside before P j e l E))
 
   used-else : (p i : ℕ) → d ≢ p → used (done ++ (a ∷ [])) p i ≡ used done p i
   unfolding used
-  used-else p i e =
+  used-else p i other =
       more_no (λ x. eqb x.match.deliverer p) (λ x. get_or x.filled.lots i 0) done a
-      (ne_eqb a.match.deliverer p (λ q. e (sym (next-deliverer b draw m₀ l₀ S k basket cells count inside before P j l) ∙ q)))
+      (ne_eqb a.match.deliverer p (λ q. other (sym (next-deliverer b draw m₀ l₀ S k basket made inside before P j e l E) ∙ q)))
 
   used-few : (i : ℕ) → i < m → used done d i + get_or a.filled.lots i 0 ≤ 200_000_000
   unfolding used view
@@ -168,7 +170,7 @@ module _ (b draw m₀ l₀ : List ℕ) (S : Start b draw m₀ l₀) (k : ℕ) (b
   lots-few i q =
       omega (
         arith,
-        more_yes (λ x. eqb x.match.deliverer d) (λ x. all_lots x.filled i) done a (eq-eqb a.match.deliverer d (next-deliverer b draw m₀ l₀ S k basket cells count inside before P j l)),
+        more_yes (λ x. eqb x.match.deliverer d) (λ x. all_lots x.filled i) done a (eq-eqb a.match.deliverer d (next-deliverer b draw m₀ l₀ S k basket made inside before P j e l E)),
         part-total (view b) draw (λ x. pick (eqb x.match.deliverer d) (all_lots x.filled i) 0) part,
         lots-from-most (view b) draw h d i deliverer q,
       )
@@ -209,10 +211,9 @@ module _ (b draw m₀ l₀ : List ℕ) (S : Start b draw m₀ l₀) (k : ℕ) (b
     terms-rated : Rates (book_terms c) rates
     terms-rated = subst (λ (ts : List Terms). Rates ts rates) (sym (terms-kept b S.book done c R.booked)) T.rated
 
-    pub usable-asks : (usable : List ℕ) → length usable ≡ 32 → UsableAsked c cells j rates inside allocable used' usable
-    usable-asks usable e = record {
+    pub usable-asks : (usable : List ℕ) → length usable ≡ 32 → UsableAsked c e rates inside allocable used' usable
+    usable-asks usable v = record {
       sized = sized-kept b S.book done c R.booked;
-      place = omega (arith, P.few);
       deliverer = omega (arith, deliverer, S.book.sizes.few);
       rated = terms-rated;
       stock = T.stock.places;
@@ -225,27 +226,26 @@ module _ (b draw m₀ l₀ : List ℕ) (S : Start b draw m₀ l₀) (k : ℕ) (b
             R.gone d i deliverer (omega (arith, issues-same)),
             used-enough i (omega (arith, issues-same)),
           );
-      wide = e;
+      wide = v;
     }
 
     -- the deliverers' rankings are those of the book as it was
     pub orders-kept : (orders : List ℕ) → Orders c orders → Orders b orders
     orders-kept orders O = orders-moved c b issues-same (λ p i y x. notice-same p i y (omega (arith, issues-same))) O
 
-    module _ (usable' : List ℕ) (all : ℕ) (U : UsableLots c cells j inside allocable used' usable' all) where
+    module _ (usable' : List ℕ) (all : ℕ) (U : UsableLots c e inside allocable used' usable' all) where
       usable_at : (i : ℕ) → i < issues_in c → get_or usable' i 0 ≡ may_use inside allocable used' d i
       usable_at i x = sym (get_or-take (issues_in c) usable' i 0 x) ∙ ap (λ (v : List ℕ). get_or v i 0) U.row ∙ get_or-table (issues_in c) (may_use inside allocable used' d) i 0 x
 
       -- an order of the book as it was is one of the book as it is
-      order-now : (order : List ℕ) (listed : ℕ) → OrderedAt b before cells j (may_use inside allocable used' d) order listed → OrderedAt c before cells j (λ i. get_or usable' i 0) order listed
-      order-now order listed o =
+      order-now : (order : List ℕ) → OrderedAt b before e (may_use inside allocable used' d) order → OrderedAt c before e (λ i. get_or usable' i 0) order
+      order-now order o =
           ordered-moved (sym issues-same) (λ i x. ap (λ (v : ℕ). order_key pref v (get_or before (32 * d + i) 0)) (sym (notice-same d i deliverer-few x)))
           (λ i x. omega (arith, usable_at i (omega (arith, issues-same)))) o
 
-      pub order-asks : (listed : ℕ) (orders order : List ℕ) → Orders b orders → length order ≡ 32 → (0 < listed → Same cells j → OrderedAt b before cells j (may_use inside allocable used' d) order listed)
-          → OrderAsked c before cells j usable' listed orders order
-      order-asks listed orders order O e last = record {
-        place = omega (arith, P.few);
+      pub order-asks : (last : Option Entry) (orders order : List ℕ) → Orders b orders → (0 < length order → Same last e → OrderedAt b before e (may_use inside allocable used' d) order)
+          → OrderAsked c before last e usable' orders order
+      order-asks last orders order O same = record {
         amount = amount_most;
         loadable = record {
           sized = sized-kept b S.book done c R.booked;
@@ -253,16 +253,14 @@ module _ (b draw m₀ l₀ : List ℕ) (S : Start b draw m₀ l₀) (k : ℕ) (b
           notified_most = λ i x. omega (arith, notice-same d i deliverer-few (omega (arith, issues-same)), lots-notified i (omega (arith, issues-same)));
           earlier = P.earlier;
           kept = orders-moved b c (sym issues-same) (λ p i y x. sym (notice-same p i y x)) O;
-          long = e;
         };
-        last = λ x s. order-now order listed (last x s);
+        last_is = λ x s. order-now order (same x s);
       }
 
-    module _ (usable' : List ℕ) (all : ℕ) (U : UsableLots c cells j inside allocable used' usable' all) (orders order : List ℕ) (listed : ℕ) (O : OrderFor c before cells j usable' all orders order listed) where
-      pub fill-asks : (lots : List ℕ) → lots ≡ zeros 32 → Fillable c cells j rates usable' all order listed lots
-      fill-asks lots e = record {
+    module _ (usable' : List ℕ) (all : ℕ) (U : UsableLots c e inside allocable used' usable' all) (orders order : List ℕ) (O : OrderFor c before e usable' all orders order) where
+      pub fill-asks : (lots : List ℕ) → lots ≡ zeros 32 → Fillable c e rates usable' all order lots
+      fill-asks lots v = record {
         sized = sized-kept b S.book done c R.booked;
-        place = omega (arith, P.few);
         deliverer = omega (arith, deliverer, S.book.sizes.few);
         amount = amount_most;
         rated = terms-rated;
@@ -270,20 +268,20 @@ module _ (b draw m₀ l₀ : List ℕ) (S : Start b draw m₀ l₀) (k : ℕ) (b
         most = U.most;
         worth_is = U.worth_is;
         named = O.named;
-        empty = e;
+        empty = v;
       }
 
-      module _ (f : Filling) (lots : List ℕ) (A : FilledAs (filled_in c k cells j usable' order listed) f lots) where
+      module _ (f : Filling) (lots : List ℕ) (A : FilledAs (filled_in c k e usable' order) f lots) where
         F : FilledAs a.filled f lots
-        F = subst (λ (x : Filled). FilledAs x f lots) (next-filled b draw m₀ l₀ S k basket cells count inside before P j l rates allocable T c used' matches lines n q R usable' all U orders order listed O) A
+        F = subst (λ (x : Filled). FilledAs x f lots) (next-filled b draw m₀ l₀ S k basket made inside before P j e l E rates allocable T c used' matches lines n q R usable' all U orders order O) A
 
         pub lots-wide : length lots ≡ 32
         lots-wide = ap length F.lots_are ∙ length-padded a.filled.lots (omega (arith, issues, S.book.sizes.most))
 
         -- the cells of the day's issues
-        module _ (row : List ℕ) (e : row ≡ take m lots) where
+        module _ (row : List ℕ) (v : row ≡ take m lots) where
           row_is : row ≡ a.filled.lots
-          row_is = e ∙ front-is a.filled f lots F m issues
+          row_is = v ∙ front-is a.filled f lots F m issues
 
           row-size : length row ≡ m
           row-size = ap length row_is ∙ issues
@@ -300,17 +298,16 @@ module _ (b draw m₀ l₀ : List ℕ) (S : Start b draw m₀ l₀) (k : ℕ) (b
           lines_fit : 3 * length (line_list done) + 3 * length (lines_of (length done) a) ≤ 7392
           lines_fit = omega (arith, lines-few, ap length (lines_more done a), length-append (line_list done) (lines_of (length done) a))
 
-          pub write-asks : Writable c k cells j f row used' matches lines n q
+          pub write-asks : Writable c k e f row used' matches lines n q
           write-asks = record {
             basket = basket;
-            place = omega (arith, P.few);
             match_room = omega (arith, R.match_count, matches-few, R.match_size, S.match_places);
             match_few = omega (arith, R.match_count, matches-few);
             lots_asked = record {
               book = R.booked.size;
               deliverer = omega (arith, deliverer, S.book.sizes.few);
               receiver = omega (arith, receiver, S.book.sizes.few);
-              apart = λ x. z.apart (next-deliverer b draw m₀ l₀ S k basket cells count inside before P j l ∙ x ∙ sym (next-receiver b draw m₀ l₀ S k basket cells count inside before P j l));
+              apart = λ x. z.apart (next-deliverer b draw m₀ l₀ S k basket made inside before P j e l E ∙ x ∙ sym (next-receiver b draw m₀ l₀ S k basket made inside before P j e l E));
               few = omega (arith, row-size, S.book.sizes.most);
               gone = R.places;
               small = λ i x. omega (arith, used-at i (omega (arith, row-size)), used-few i (omega (arith, row-size)), all_is i, lots-few i (omega (arith, row-size, issues)));
@@ -327,18 +324,18 @@ module _ (b draw m₀ l₀ : List ℕ) (S : Start b draw m₀ l₀) (k : ℕ) (b
 
           -- ---- what is left
 
-          module _ (c' used'' matches' lines' : List ℕ) (n' q' : ℕ) (W : Wrote c k cells j f row used' matches lines n q c' used'' matches' lines' n' q') where
+          module _ (c' used'' matches' lines' : List ℕ) (n' q' : ℕ) (W : Wrote c k e f row used' matches lines n q c' used'' matches' lines' n' q') where
             yen : YenMoved c W.between a.basket a.match.deliverer a.match.receiver a.filled.covered
-            unfolding next_of allocate match_at
+            unfolding next_of allocate
             yen = subst (λ (x : ℕ). YenMoved c W.between k d r x) F.covered W.yen
 
             moved : LotsMoved W.between c' a.match.deliverer a.match.receiver (lots_with f row)
-            unfolding next_of allocate match_at
+            unfolding next_of allocate
             moved = W.moved
 
-            entry : entry_of k d r (get_or cells (4 * j + 2) 0) f ≡ match_entry a
-            unfolding next_of allocate match_at match_entry
-            entry = entry-is a.filled f lots F k d r (get_or cells (4 * j + 2) 0)
+            entry : entry_of k d r e.amount.0 f ≡ match_entry a
+            unfolding next_of allocate match_entry
+            entry = entry-is a.filled f lots F k d r e.amount.0
 
             gone : (p i : ℕ) → p < participants_in b → i < m → get_or used'' (32 * p + i) 0 ≡ used (done ++ (a ∷ [])) p i
             gone p i x v = cases (ℕ_discrete d p)
@@ -359,7 +356,7 @@ module _ (b draw m₀ l₀ : List ℕ) (S : Start b draw m₀ l₀) (k : ℕ) (b
                   usable-falls (get_or inside i 0) (get_or allocable (32 * d + i) 0) (get_or used' (32 * d + i) 0) (get_or used'' (32 * d + i) 0) (omega (arith, W.gone.more i (omega (arith, row-size)))),
                 )
 
-            pub order-next : 0 < listed → OrderedAt b before cells j (may_use inside allocable used'' d) order listed
+            pub order-next : 0 < length order → OrderedAt b before e (may_use inside allocable used'' d) order
             order-next x =
                 ordered-moved issues-same (λ i v. ap (λ (w : ℕ). order_key pref w (get_or before (32 * d + i) 0)) (notice-same d i deliverer-few (omega (arith, issues-same))))
                 (λ i v. less-usable i (omega (arith, issues-same))) (O.listed x)
@@ -368,11 +365,11 @@ module _ (b draw m₀ l₀ : List ℕ) (S : Start b draw m₀ l₀) (k : ℕ) (b
             running_more =
                 let both : (lines' ≡ over l₀ 0 (joined (line_list (done ++ (a ∷ []))))) × (q' ≡ length (line_list (done ++ (a ∷ [])))) =
                 rows_more l₀ lines lines' done a n q q' (lots_with f row) R.rows R.match_count R.line_count (omega (arith, lines_fit, S.line_places)) lines-is W.listed in
-                subst (λ (x : List Allocation). Running b m₀ l₀ x c' used'' matches' lines' n' q') (sym (next-is b draw m₀ l₀ S k basket cells count inside before P j l)) (record {
+                subst (λ (x : List Allocation). Running b m₀ l₀ x c' used'' matches' lines' n' q') (sym (next-is b draw m₀ l₀ S k basket made inside before P j e l E)) (record {
                   booked = booked-more b S.book draw h done a part z c W.between c' (lots_with f row) R.booked yen moved (all-size a.filled f lots F row row_is forced ∙ issues) all_is;
                   places = W.gone.size ∙ R.places;
                   gone = gone;
-                  match_size = ap length W.entry ∙ length_over matches (entry_of k d r (get_or cells (4 * j + 2) 0) f) (7 * n) (omega (arith, write-asks.match_room)) ∙ R.match_size;
+                  match_size = ap length W.entry ∙ length_over matches (entry_of k d r e.amount.0 f) (7 * n) (omega (arith, write-asks.match_room)) ∙ R.match_size;
                   line_size = ap length W.listed.cells ∙ length_over lines (joined (lines_for n (lots_with f row))) (3 * q) (omega (arith, write-asks.lots_asked.room, cells-for n (lots_with f row))) ∙ R.line_size;
                   entries = entries-more m₀ matches matches' done a n R.entries R.match_count (omega (arith, matches-few, S.match_places)) (W.entry ∙ ap (over matches (7 * n)) entry);
                   rows = both.0;

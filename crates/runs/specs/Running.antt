@@ -1,5 +1,5 @@
 -- A run in progress: the matches filled so far, and what stands where. Assumes nothing.
-use Rattle.std.specs.Prelude.{◌≡◌, ◌≢◌, List, [], ◌∷◌, ◌++◌, ℕ, ◌+◌, ◌-◌, ◌*◌, ◌≤◌, ◌<◌, length, get_or, take, ltb}
+use Rattle.std.specs.Prelude.{◌≡◌, ◌≢◌, List, [], ◌∷◌, ◌++◌, map, ℕ, ◌+◌, ◌-◌, ◌*◌, ◌≤◌, ◌<◌, length, get_or, take, ltb}
 use Rattle.lists.specs.Tests.{pick}
 use Rattle.lists.specs.Tables.{up_to, cell}
 use Rattle.lists.specs.Folds.{foldl, joined}
@@ -11,7 +11,8 @@ use Rattle.rule.specs.Layout.{book_length, view, signed}
 use Rattle.rule.proofs.BookLaws.{SoundBook}
 use Rattle.rule.proofs.DrawLaws.{EachOnce}
 use Rattle.value.specs.Rated.{Rates}
-use Rattle.matching.specs.Plans.{Planned}
+use Rattle.matching.specs.Plans.{match_of}
+use Rattle.matching.specs.declared.Match.{Match as Entry}
 use Rattle.stock.specs.Stock.{inside_of, Allocable}
 use Rattle.records.specs.Booked.{position_at, mark_at, tally_of}
 use Rattle.orders.specs.Sizes.{participants_in, issues_in}
@@ -106,18 +107,17 @@ pub record BasketAsks (k : ℕ) (b draw rates allocable orders used' matches lin
   pub begun : Begun b₀ draw m₀ l₀ k b rates allocable orders used' matches lines m l
 
 -- the plan of basket k, its issues, and the lots used before it
-pub record Planning (b₀ draw : List ℕ) (k : ℕ) (cells : List ℕ) (count : ℕ) (inside before : List ℕ) : Type 0 where
-  pub planned : Planned (basket_plan (view b₀) draw k) cells count
-  pub few : count ≤ 11
+pub record Planning (b₀ draw : List ℕ) (k : ℕ) (made : List Entry) (inside before : List ℕ) : Type 0 where
+  pub planned : map match_of made ≡ basket_plan (view b₀) draw k
   pub wide : length inside ≡ 32
   pub inside_at : (i : ℕ) → i < issues_in b₀ → get_or inside i 0 ≡ inside_of b₀ k i
   pub earlier : length before ≡ 384
   pub before_at : (d i : ℕ) → d < participants_in b₀ → i < issues_in b₀ → get_or before (32 * d + i) 0 ≡ used (done_to (view b₀) draw k) d i
 
-pub record AllocateAsks (k : ℕ) (b cells : List ℕ) (count : ℕ) (rates inside allocable before orders used' matches lines : List ℕ) (m l : ℕ) : Type 0 where
+pub record AllocateAsks (k : ℕ) (b : List ℕ) (made : List Entry) (rates inside allocable before orders used' matches lines : List ℕ) (m l : ℕ) : Type 0 where
   pub b₀ : List ℕ
   pub draw : List ℕ
   pub m₀ : List ℕ
   pub l₀ : List ℕ
   pub begun : Begun b₀ draw m₀ l₀ k b rates allocable orders used' matches lines m l
-  pub planning : Planning b₀ draw k cells count inside before
+  pub planning : Planning b₀ draw k made inside before

@@ -3,14 +3,15 @@ ghost use Rattle.std.specs.Prelude.{◌+◌};
 ghost use Rattle.rule.specs.Layout.{view};
 ghost use Rattle.runs.specs.Running.{done_to, Done, BasketAsks, AllocateAsks};
 
+use matching::{Match, Plan};
+use ordering::Order;
 use rule::Counts;
 
 // The matches of the basket, filled one after the other.
 fn allocate(
     book: &mut [u64],
     basket: usize,
-    cells: &[u64; 44],
-    count: usize,
+    plan: &[Match],
     rates: &[u64; 32],
     inside: &[u64; 32],
     allocable: &[u64],
@@ -21,46 +22,33 @@ fn allocate(
     lines: &mut [u64],
     counts: Counts,
 ) -> Counts
-    requires { AllocateAsks basket book.old cells.now count rates.now inside.now allocable.now before.now orders.old used.old matches.old lines.old counts.matches counts.lines }
-    ensures { (s : AllocateAsks basket book.old cells.now count rates.now inside.now allocable.now before.now orders.old used.old matches.old lines.old counts.matches counts.lines)
+    requires { AllocateAsks basket book.old plan.now rates.now inside.now allocable.now before.now orders.old used.old matches.old lines.old counts.matches counts.lines }
+    ensures { (s : AllocateAsks basket book.old plan.now rates.now inside.now allocable.now before.now orders.old used.old matches.old lines.old counts.matches counts.lines)
         → Done s.b₀ s.m₀ s.l₀ (done_to (view s.b₀) s.draw (basket + 1)) book.new orders.new used.new matches.new lines.new result.matches result.lines }
 {
     let issues = book[layout::ISSUES] as usize;
-    let mut order = [0u64; 32];
-    let mut listed = 0;
+    let mut order = Order::new();
+    let mut last = None;
     let mut usable = [0u64; 32];
     let mut done = counts;
-    for j in 0..count {
+    for m in plan {
         let mut lots = [0u64; 32];
-        let all = matched::usable_lots(
-            &*book,
-            cells,
-            j,
-            rates,
-            inside,
-            allocable,
-            &*used,
-            &mut usable,
-        );
-        listed = orders::order_for(
+        let all = matched::usable_lots(&*book, *m, rates, inside, allocable, &*used, &mut usable);
+        orders::order_for(
             &*book,
             before,
-            cells,
-            j,
+            last,
+            *m,
             &usable,
             all,
-            listed,
             &mut *orders,
             &mut order,
         );
-        let f = matched::fill_next(
-            &*book, basket, cells, j, rates, &usable, all, &order, listed, &mut lots,
-        );
+        let f = matched::fill_next(&*book, basket, *m, rates, &usable, all, &order, &mut lots);
         done = matched::write_next(
             &mut *book,
             basket,
-            cells,
-            j,
+            *m,
             f,
             &mut lots[..issues],
             &mut *used,
@@ -68,6 +56,7 @@ fn allocate(
             &mut *lines,
             done,
         );
+        last = Some(*m);
     }
     done
 }
@@ -92,16 +81,15 @@ pub fn run_basket(
         → Done s.b₀ s.m₀ s.l₀ (done_to (view s.b₀) draw.now (basket + 1)) book.new orders.new used.new matches.new lines.new result.matches result.lines }
 {
     let issues = book[layout::ISSUES] as usize;
-    let mut cells = [0u64; 44];
-    let count = matched::plan_basket(&*book, basket, draw, &mut cells[..]);
+    let mut plan = Plan::new();
+    matched::plan_basket(&*book, basket, draw, &mut plan);
     let mut inside = [0u64; 32];
     stock::mark_issues(&*book, basket as u64, &mut inside[..issues]);
-    lists::copy(&mut before[..], &*used, 0);
+    before.copy_from_slice(used);
     allocate(
         book,
         basket,
-        &cells,
-        count,
+        plan.as_slice(),
         rates,
         &inside,
         allocable,

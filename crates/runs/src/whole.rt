@@ -55,7 +55,7 @@ fn clear_notices(book: &mut [u64])
     for p in 0..participants {
         let at = layout::NOTICES + layout::MOST_ISSUES * p;
         let end = at + issues;
-        lists::clear(&mut book[at..end]);
+        book[at..end].fill(0);
     }
 }
 

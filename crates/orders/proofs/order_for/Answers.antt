@@ -1,13 +1,11 @@
--- `orders::order_for` meets its contract. Assumes nothing.
-use Rattle.std.proofs.Common.{refl}
-use Rattle.orders.proofs.OrderLaws.{still-listed, not-asked, now-listed}
+use Rattle.orders.proofs.OrderLaws.{not-empty, still-listed, not-asked, now-listed}
 use Rattle.orders.proofs.order_for.Goals as goal
 
-pub returns-then-is_listed : goal.returns-then-is_listed
-returns-then-is_listed c = still-listed c.requires _ (c.is_listed.ensures c.if-is_listed.true)
-
 pub returns-then-not-goes_through : goal.returns-then-not-goes_through
-returns-then-not-goes_through c = not-asked c.requires _ (c.goes_through.ensures c.if-not-goes_through.true)
+returns-then-not-goes_through c = not-asked c.requires _ (c.goes_through.ensures c.if-not-goes_through.true) c.clear.ensures
 
 pub returns : goal.returns
-returns c = now-listed c.requires _ _ refl c.load_order.ensures
+returns c = now-listed c.requires _ c.load_order.ensures
+
+pub returns-then-follows : goal.returns-then-follows
+returns-then-follows c = still-listed c.requires _ (not-empty _ _ c.is_empty.ensures c.if-not-is_empty.true) (c.follows.ensures c.if-follows.true)

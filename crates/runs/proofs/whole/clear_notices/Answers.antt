@@ -1,4 +1,4 @@
-use Rattle.std.proofs.Common.{arith}
+use Rattle.std.proofs.Common.{arith, rules}
 use Rattle.runs.proofs.RanLaws.{cleared-none, cleared-room, cleared_more, cleared-all}
 use Rattle.runs.proofs.whole.clear_notices.Goals as goal
 
@@ -23,11 +23,11 @@ overflow_add-end c = omega (arith, cleared-room _ c.requires c.loop-p.invariant 
 pub offset_bounds-book-at : goal.offset_bounds-book-at
 offset_bounds-book-at c = omega (arith, cleared-room _ c.requires c.loop-p.invariant c.loop-p-test.true, c.requires.cells, c.loop-p.invariant.size)
 
-pub slice_bounds-clear-end : goal.slice_bounds-clear-end
-slice_bounds-clear-end c = omega (arith, cleared-room _ c.requires c.loop-p.invariant c.loop-p-test.true)
+pub slice_bounds-fill-end : goal.slice_bounds-fill-end
+slice_bounds-fill-end c = omega (arith, cleared-room _ c.requires c.loop-p.invariant c.loop-p-test.true)
 
 pub loop-p-preserved : goal.loop-p-preserved
-loop-p-preserved c = cleared_more _ c.requires c.loop-p.invariant c.loop-p-test.true _ c.clear.ensures
+loop-p-preserved c = cleared_more _ c.requires c.loop-p.invariant c.loop-p-test.true _ (c.fill.ensures.after (λ y e. search rules))
 
 pub shape_of-book : goal.shape_of-book
 shape_of-book c = c.loop-p.invariant.size
