@@ -13,7 +13,9 @@ use Rattle.lists.proofs.PartLaws.{block-get, length-block, part-is, part_length}
 use Rattle.rule.specs.Filling.{Filled, filled, forced_issue}
 use Rattle.rule.specs.Layout.{terms_at, notices_at}
 use Rattle.value.proofs.TermLaws.{terms-length, terms-priced}
-use Rattle.filling.specs.Match.{Matchable, FilledAs}
+use Rattle.filling.specs.Rows.{Asked}
+use Rattle.filling.specs.Match.{Supplied, FilledAs}
+use Rattle.value.specs.Rated.{terms_in}
 use Rattle.filling.specs.declared.Filling.{Filling}
 use Rattle.matching.specs.declared.Match.{Match as Entry}
 use Rattle.records.specs.Issues.{Used, IssuesWritable, IssuesWritten}
@@ -82,38 +84,43 @@ module _ {b : List ℕ} {e : Entry} {rates usable : List ℕ} {all : ℕ} {order
   pub notices-fit : from + n ≤ length b
   notices-fit = omega (arith, h.sized.cells, h.sized.issues, h.deliverer)
 
-  notices-are : take n (take (from + n - from) (drop from b)) ≡ block b from n
-  notices-are =
-      let size : length (take (from + n - from) (drop from b)) ≡ n = part_length b from n notices-fit in
-      ap (λ (l : List ℕ). take n l) (part-is b from n) ∙ take_all n (block b from n) (omega (arith, length-block b from n notices-fit))
+  terms-part : take (terms_at + 192 - terms_at) (drop terms_at b) ≡ block b terms_at 192
+  terms-part = part-is b terms_at 192
 
-  pub fill-asks : {lent part : List ℕ} → lent ≡ order → part ≡ lent
-      → Matchable n (length lent) (block b terms_at 192) (take (from + n - from) (drop from b)) usable (part ++ drop (length lent) (zeros 32)) rates all e.amount.0 lots
-  fill-asks o p = record {
-    issues_least = h.sized.some;
-    issues_most = h.sized.issues;
-    cells = omega (arith, length-block b terms_at 192 (omega (arith, h.sized.cells)), h.sized.issues);
-    notified_there = omega (arith, part_length b from n notices-fit);
-    wide = h.wide;
-    empty = h.empty;
-    rated = h.rated;
-    usable_most = h.most;
-    named = rw (p, o) h.named;
-    all_is = h.worth_is;
-    amount_most = h.amount;
-  }
+  usable-long : length (take n usable) ≡ n
+  usable-long = length-take-le n usable (omega (arith, h.wide, h.sized.issues))
 
-  pub fill_is : (k : ℕ) {lent part : List ℕ} {f : Filling} {lots' : List ℕ} → lent ≡ order → part ≡ lent
-      → FilledAs (filled (get_or b 2 0) e.preferential (book_terms b) (take n usable) (take (length lent) (part ++ drop (length lent) (zeros 32)))
-        (forced_issue k (book_terms b) (take n (take (from + n - from) (drop from b)))) e.amount.0) f lots'
+  usable-at : (i : ℕ) → i < n → get_or (take n usable) i 0 ≡ get_or usable i 0
+  usable-at i l = get_or-take n usable i 0 l
+
+  pub fill-supplied : {listed : List ℕ} → length rates ≡ 32 → listed ≡ order
+      → Supplied (block b terms_at 192) rates (take (from + n - from) (drop from b)) (take n usable) listed all
+  fill-supplied r o = rw o (record {
+    issues_least = omega (arith, usable-long, h.sized.some);
+    issues_most = omega (arith, usable-long, h.sized.issues);
+    cells = omega (arith, usable-long, length-block b terms_at 192 (omega (arith, h.sized.cells)), h.sized.issues);
+    rates_there = omega (arith, usable-long, h.sized.issues, r);
+    notified_there = part_length b from n notices-fit ∙ sym usable-long;
+    rated = rw usable-long h.rated;
+    usable_most = λ i l. omega (arith, usable-at i (omega (arith, usable-long)), h.most i (omega (arith, usable-long)));
+    named = rw usable-long h.named;
+    all_is = rw usable-long h.worth_is;
+  })
+
+  pub fill-asks : Asked (length (take n usable)) e.amount.0 lots
+  fill-asks = record { amount_most = h.amount; empty = h.empty ∙ ap zeros (sym usable-long) }
+
+  pub fill_is : (k : ℕ) {listed : List ℕ} {f : Filling} {lots' : List ℕ} → listed ≡ order
+      → FilledAs (filled (get_or b 2 0) e.preferential (terms_in (length (take n usable)) (block b terms_at 192)) (take n usable) listed
+        (forced_issue k (terms_in (length (take n usable)) (block b terms_at 192)) (take (from + n - from) (drop from b))) e.amount.0) f lots'
       → FilledAs (filled_in b k e usable order) f lots'
   unfolding filled_in
-  fill_is k {lent} {part} {f} {lots'} o p q =
+  fill_is k {listed} {f} {lots'} o q =
       subst (λ (x : Filled). FilledAs x f lots')
-      (ap₂ (λ (r l : List ℕ). filled (get_or b 2 0) e.preferential (book_terms b) (take n usable) r (forced_issue k (book_terms b) l) e.amount.0) listed notices-are) q
-    where
-      listed : take (length lent) (part ++ drop (length lent) (zeros 32)) ≡ order
-      listed = rw (p, o) (take-append_seam order (drop (length order) (zeros 32)))
+      (ap₂ (λ (i : ℕ) (l : List ℕ). filled (get_or b 2 0) e.preferential (terms_in i (block b terms_at 192)) (take n usable) listed (forced_issue k (terms_in i (block b terms_at 192)) l) e.amount.0)
+      usable-long (part-is b from n)
+      ∙ ap (λ (l : List ℕ). filled (get_or b 2 0) e.preferential (book_terms b) (take n usable) l (forced_issue k (book_terms b) (block b from n)) e.amount.0) o)
+      q
 
 -- ---- writing
 

@@ -6,7 +6,6 @@ use Rattle.rule.specs.Value.{Terms}
 use Rattle.rule.specs.Matching.{Match, plan}
 use Rattle.arrayvec.specs.ArrayVec.{ArrayVec}
 use Rattle.matching.specs.declared.Match.{Match as Entry}
-use Rattle.orders.specs.Orders.{in_row}
 use Rattle.rule.specs.Filling.{worth, Filled, filled, forced_issue}
 use Rattle.rule.specs.Layout.{book_length, terms_at, pairs_at, positions_at, notices_at, plus, minus}
 use Rattle.rule.proofs.DrawLaws.{EachOnce}
@@ -76,8 +75,8 @@ pub record Fillable (b : List ℕ) (m : Entry) (rates usable : List ℕ) (all : 
   pub wide : length usable ≡ 32
   pub most : (i : ℕ) → i < issues_in b → get_or usable i 0 ≤ 200_000_000
   pub worth_is : all ≡ worth (book_terms b) (take (issues_in b) usable)
-  pub named : Named (issues_in b) (length order) (in_row order)
-  pub empty : lots ≡ zeros 32
+  pub named : Named (issues_in b) order
+  pub empty : lots ≡ zeros (issues_in b)
 
 unfoldable pub filled_in : List ℕ → ℕ → Entry → List ℕ → List ℕ → Filled
 filled_in b k m usable order =

@@ -6,7 +6,7 @@ ghost use Rattle.matching.specs.Plans.{Planned};
 ghost use Rattle.matched.specs.Filled.{Plannable, PlanRows, plan_in, UsableAsked, UsableLots, Fillable, filled_in, LotsWritable, LotsWritten, Writable, Wrote};
 
 use book::sound;
-use filling::Filling;
+use filling::{Filling, Supply};
 use matching::{Match, Plan};
 use ordering::Order;
 use records::{booking, issues, listing};
@@ -84,7 +84,7 @@ pub fn usable_lots(
     )
 }
 
-// A match, filled with what it may use.
+// A match, filled with what it may use: its lots go into a lent row of zeros.
 pub fn fill_next(
     book: &[u64],
     basket: usize,
@@ -93,7 +93,7 @@ pub fn fill_next(
     usable: &[u64; 32],
     all: Yen,
     order: &Order,
-    lots: &mut [u64; 32],
+    lots: &mut [u64],
 ) -> Filling
     requires { Fillable book.now m rates.now usable.now all.0 order.now.items lots.old }
     ensures { FilledAs (filled_in book.now basket m usable.now order.now.items) result lots.new }
@@ -101,22 +101,18 @@ pub fn fill_next(
     let issues = book[layout::ISSUES] as usize;
     let notices = layout::NOTICES + layout::MOST_ISSUES * m.deliverer;
     let end = notices + issues;
-    // a row until filling takes the order as it is
-    let listed = order.as_slice();
-    let mut row = [0u64; 32];
-    row[..listed.len()].copy_from_slice(listed);
-    filling::fill_match(
-        book[layout::RUNS],
-        m.preferential,
-        basket as u64,
-        issues,
-        &book[layout::TERMS..layout::RECEIPTS],
-        &book[notices..end],
-        usable,
-        &row,
-        listed.len(),
+    let supply = Supply {
+        terms: &book[layout::TERMS..layout::RECEIPTS],
         rates,
+        notified: &book[notices..end],
+        usable: &usable[..issues],
+        order: order.as_slice(),
         all,
+    };
+    supply.fill_match(
+        book[layout::RUNS],
+        basket as u64,
+        m.preferential,
         m.amount,
         lots,
     )

@@ -22,7 +22,7 @@ use Rattle.lists.proofs.OrderLaws.{ranked-alike}
 use Rattle.rule.specs.Layout.{notices_at}
 use Rattle.filling.specs.Rows.{Named}
 use Rattle.filling.specs.Match.{Idle}
-use Rattle.filling.proofs.OnceLaws.{order-named}
+use Rattle.filling.proofs.OnceLaws.{kept-named}
 use Rattle.ranking.proofs.RankLaws.{length-ranked}
 use Rattle.matching.specs.declared.Match.{Match}
 use Rattle.ordering.specs.Ordered.{Orderable, Ordered, order_key}
@@ -30,7 +30,7 @@ use Rattle.ordering.proofs.OrderLaws.{ordered-moved}
 use Rattle.rows.specs.Rows.{Becomes}
 use Rattle.rows.proofs.RowLaws.{lent-size, lent-in, lent_out}
 use Rattle.orders.specs.Sizes.{issues_in}
-use Rattle.orders.specs.Orders.{Same, notified_in, RankedAt, Orders, Rankable, key_in, OrderedAt, Loadable, Loaded, OrderAsked, in_row, OrderFor}
+use Rattle.orders.specs.Orders.{Same, notified_in, RankedAt, Orders, Rankable, key_in, OrderedAt, Loadable, Loaded, OrderAsked, OrderFor}
 
 -- ---- a row of a deliverer's issues, ranked
 
@@ -155,15 +155,9 @@ module _ {b before : List ℕ} {d : ℕ} {orders : List ℕ} (L : Loadable b bef
 pub not-empty : (empty : Bool) (n : ℕ) → empty ≡ eqb n 0 → empty ≡ false → 0 < n
 not-empty empty n e f = omega (arith, eqb-false n 0 (sym e ∙ f))
 
--- an order in a row
-row-long : (order : List ℕ) → length order ≤ 32 → length (in_row order) ≡ 32
-row-long order h = length-append order (drop (length order) (zeros 32)) ∙ omega (arith, length-drop (length order) (zeros 32), length-zeros 32)
-
 module _ {b before : List ℕ} {last : Option Match} {m : Match} {usable orders order : List ℕ} (a : OrderAsked b before last m usable orders order) (all : ℕ) where
-  named-of : {order' : List ℕ} → OrderedAt b before m (λ i. get_or usable i 0) order' → Named (issues_in b) (length order') (in_row order')
-  named-of {order'} o =
-      order-named (issues_in b) (length order') _ o.live (in_row order') (row-long order' (omega (arith, o.few, a.loadable.sized.issues))) a.loadable.sized.issues o.few
-      (take-append_seam order' (drop (length order') (zeros 32)) ∙ o.names)
+  named-of : {order' : List ℕ} → OrderedAt b before m (λ i. get_or usable i 0) order' → Named (issues_in b) order'
+  named-of o = subst (Named (issues_in b)) (sym o.names) (kept-named (issues_in b) _ o.live)
 
   -- the order of the match before is that of match m
   pub still-listed : 0 < length order → Same last m → OrderFor b before m usable all orders order
@@ -175,8 +169,6 @@ module _ {b before : List ℕ} {last : Option Match} {m : Match} {usable orders 
   not-asked h e = rw e (record {
     kept = a.loadable.kept;
     named = record {
-      long = row-long [] (omega arith);
-      few = omega arith;
       inside = λ k l. absurd (not-suc-le-zero l);
       once = λ i k l. absurd (not-suc-le-zero l);
     };

@@ -61,13 +61,9 @@ pub record OrderAsked (b before : List ℕ) (last : Option Match) (m : Match) (u
   pub loadable : Loadable b before m.deliverer orders
   pub last_is : 0 < length order → Same last m → OrderedAt b before m (λ i. get_or usable i 0) order
 
--- an order in a row of 32 cells
-abbrev pub in_row : List ℕ → List ℕ
-in_row order = order ++ drop (length order) (zeros 32)
-
 -- it is match m's, or filling does not go through it and it lists no issue
 pub record OrderFor (b before : List ℕ) (m : Match) (usable : List ℕ) (all : ℕ) (orders order : List ℕ) : Type 0 where
   pub kept : Orders b orders
-  pub named : Named (issues_in b) (length order) (in_row order)
+  pub named : Named (issues_in b) order
   pub fits : OrderedAt b before m (λ i. get_or usable i 0) order ⊎ Idle (get_or b 2 0) all m.amount.0
   pub listed : 0 < length order → OrderedAt b before m (λ i. get_or usable i 0) order

@@ -21,7 +21,7 @@ use Rattle.matched.specs.Filled.{UsableAsked, UsableLots, Fillable, filled_in, W
 use Rattle.runs.specs.Running.{done_to, done_at, Running, Done, AllocateAsks}
 use Rattle.runs.proofs.DoneLaws.{done-begin, done_end}
 use Rattle.runs.proofs.ReadLaws.{issues-kept}
-use Rattle.runs.proofs.RunningLaws.{may_use, usable-asks, orders-kept, order-asks, order-next, fill-asks, lots-wide, write-asks, running_more}
+use Rattle.runs.proofs.RunningLaws.{may_use, usable-asks, orders-kept, order-asks, order-next, fill-asks, write-asks, running_more}
 
 module _ (k : ℕ) (b₁ : List ℕ) (made : List Entry) (rates inside allocable before orders₁ used₁ matches₁ lines₁ : List ℕ) (m₁ l₁ : ℕ) where
   abbrev Asks : Type 0
@@ -73,46 +73,39 @@ module _ (k : ℕ) (b₁ : List ℕ) (made : List Entry) (rates inside allocable
               subst (λ (x : Bool). Ordered (issues_in s.b₀) (key_in s.b₀ before e.deliverer x) (may_use inside allocable used e.deliverer) order) y.sort
               (subst (λ (x : ℕ). Ordered (issues_in s.b₀) (key_in s.b₀ before x y.before.preferential) (may_use inside allocable used x) order) y.deliverer o)
 
+    -- the code has the number of issues from the book as the basket began
+    pub issues-same : Asks → get_or b₁ 1 0 ≡ issues_in b
+    issues-same s = issues-kept s.b₀ s.begun.start.book _ b₁ s.begun.running.booked ∙ sym (issues-kept s.b₀ s.begun.start.book _ b (w.running s).booked)
+
+    pub issues-few : Asks → get_or b₁ 1 0 ≤ 32
+    issues-few s = omega (arith, issues-kept s.b₀ s.begun.start.book _ b₁ s.begun.running.booked, s.begun.start.book.sizes.most)
+
     module _ {usable : List ℕ} {all : ℕ} (U : UsableLots b e inside allocable used usable all) {orders' order' : List ℕ} (O : OrderFor b before e usable all orders' order') where
-      pub fill-asked : (lots : List ℕ) → lots ≡ zeros 32 → Asks → Fillable b e rates usable all order' lots
+      pub fill-asked : (lots : List ℕ) → lots ≡ zeros (issues_in b) → Asks → Fillable b e rates usable all order' lots
       fill-asked lots v s =
           fill-asks s.b₀ s.draw s.m₀ s.l₀ s.begun.start k s.begun.basket made inside before s.planning j e h E rates allocable s.begun.tables
           b used matches lines m l (w.running s) usable all U orders' order' O lots v
 
       module _ {f : Filling} {lots : List ℕ} (A : FilledAs (filled_in b k e usable order') f lots) where
-        -- the code has the number of issues from the book as the basket began
-        issues-same : (s : Asks) → get_or b₁ 1 0 ≡ issues_in s.b₀
-        issues-same s = issues-kept s.b₀ s.begun.start.book _ b₁ s.begun.running.booked
-
-        pub lots-long : Asks → get_or b₁ 1 0 ≤ length lots
-        lots-long s =
-            omega (
-              arith,
-              issues-same s,
-              s.begun.start.book.sizes.most,
-              lots-wide s.b₀ s.draw s.m₀ s.l₀ s.begun.start k s.begun.basket made inside before s.planning j e h E rates allocable s.begun.tables
-                  b used matches lines m l (w.running s) usable all U orders' order' O f lots A,
-            )
-
-        pub write-asked : Asks → Writable b k e f (take (get_or b₁ 1 0) lots) used matches lines m l
+        pub write-asked : Asks → Writable b k e f lots used matches lines m l
         write-asked s =
             write-asks s.b₀ s.draw s.m₀ s.l₀ s.begun.start k s.begun.basket made inside before s.planning j e h E rates allocable s.begun.tables
-            b used matches lines m l (w.running s) usable all U orders' order' O f lots A (take (get_or b₁ 1 0) lots) (ap (λ (x : ℕ). take x lots) (issues-same s))
+            b used matches lines m l (w.running s) usable all U orders' order' O f lots A
 
-        pub allocating-more : {b' used' matches' lines' : List ℕ} {m' l' : ℕ} → Wrote b k e f (take (get_or b₁ 1 0) lots) used matches lines m l b' used' matches' lines' m' l'
+        pub allocating-more : {b' used' matches' lines' : List ℕ} {m' l' : ℕ} → Wrote b k e f lots used matches lines m l b' used' matches' lines' m' l'
             → Allocating b' orders' used' matches' lines' order' (Some e) usable m' l' (j + 1)
         allocating-more {b'} {used'} {matches'} {lines'} {m'} {l'} W = record {
           here = omega arith;
           wide = U.wide;
           running = λ s.
               running_more s.b₀ s.draw s.m₀ s.l₀ s.begun.start k s.begun.basket made inside before s.planning j e h E rates allocable s.begun.tables
-              b used matches lines m l (w.running s) usable all U orders' order' O f lots A (take (get_or b₁ 1 0) lots) (ap (λ (x : ℕ). take x lots) (issues-same s)) b' used' matches' lines' m' l' W;
+              b used matches lines m l (w.running s) usable all U orders' order' O f lots A b' used' matches' lines' m' l' W;
           kept = λ s.
               orders-kept s.b₀ s.draw s.m₀ s.l₀ s.begun.start k s.begun.basket made inside before s.planning j e h E rates allocable s.begun.tables
               b used matches lines m l (w.running s) orders' O.kept;
           last_is = λ s x p z. subst (λ (q : Entry). OrderedAt s.b₀ before q (may_use inside allocable used' q.deliverer) order') (ap (λ (o : Option Entry). unwrap_or o e) z)
               (order-next s.b₀ s.draw s.m₀ s.l₀ s.begun.start k s.begun.basket made inside before s.planning j e h E rates allocable s.begun.tables
-              b used matches lines m l (w.running s) usable all U orders' order' O f lots A (take (get_or b₁ 1 0) lots) (ap (λ (x : ℕ). take x lots) (issues-same s)) b' used' matches' lines' m' l' W x);
+              b used matches lines m l (w.running s) usable all U orders' order' O f lots A b' used' matches' lines' m' l' W x);
         }
 
   -- ---- the lengths of what is lent stay

@@ -20,7 +20,6 @@ use Rattle.lists.proofs.AppendLaws.{map-append, joined-append, joined_length, ov
 use Rattle.rule.specs.Filling.{Filled, all_lots}
 use Rattle.rule.specs.Run.{Allocation, match_entry, lines_of, lines_from, match_list, line_list}
 use Rattle.rule.proofs.RunLists.{match-sizes, length-match_list}
-use Rattle.filling.specs.Rows.{padded}
 use Rattle.filling.specs.Match.{FilledAs}
 use Rattle.filling.specs.declared.Filling.{Filling}
 use Rattle.records.specs.Listed.{entry_of, line_for, lines_to, lines_for, Listed}
@@ -75,15 +74,11 @@ module _ (F : Filled) (f : Filling) (lots : List ℕ) (w : FilledAs F f lots) wh
   pub entry-is : (k d r amount : ℕ) → entry_of k d r amount f ≡ k ∷ d ∷ r ∷ amount ∷ F.covered ∷ F.forced ∷ F.forced_lots ∷ []
   entry-is k d r amount = rw (w.covered, w.forced, w.forced_lots) refl
 
-  pub front-is : (n : ℕ) → length F.lots ≡ n → take n lots ≡ F.lots
-  unfolding padded
-  front-is n e = ap₂ (λ (q : ℕ) (l : List ℕ). take q l) (sym e) w.lots_are ∙ take-append_seam F.lots (zeros (32 - length F.lots))
-
-  module _ (part : List ℕ) (p : part ≡ F.lots) (inside : F.forced < length F.lots) where
+  module _ (inside : F.forced < length F.lots) where
     -- "lots with forced ones"
-    pub all-lots : (i : ℕ) → get_or (lots_with f part) i 0 ≡ all_lots F i
+    pub all-lots : (i : ℕ) → get_or (lots_with f lots) i 0 ≡ all_lots F i
     unfolding all_lots
-    all-lots i = rw (p, w.forced, w.forced_lots) (cases (ℕ_discrete i F.forced))
+    all-lots i = rw (w.lots_are, w.forced, w.forced_lots) (cases (ℕ_discrete i F.forced))
       where
         cases : Dec (i ≡ F.forced) → get_or (set F.lots F.forced (get_or F.lots F.forced 0 + F.forced_lots)) i 0 ≡ get_or F.lots i 0 + pick (eqb i F.forced) F.forced_lots 0
         cases (yes e) =
@@ -94,8 +89,8 @@ module _ (F : Filled) (f : Filling) (lots : List ℕ) (w : FilledAs F f lots) wh
             get_or-set_other F.lots F.forced i (get_or F.lots F.forced 0 + F.forced_lots) 0 e
             ∙ omega (arith, pick_no (eqb i F.forced) F.forced_lots 0 (ne_eqb i F.forced e))
 
-    pub all-size : length (lots_with f part) ≡ length F.lots
-    all-size = length-set part f.forced _ ∙ ap length p
+    pub all-size : length (lots_with f lots) ≡ length F.lots
+    all-size = length-set lots f.forced _ ∙ ap length w.lots_are
 
 lines-agree : (number : ℕ) (f g : ℕ → ℕ) → ((i : ℕ) → f i ≡ g i) → (is : List ℕ)
     → map (λ i. number ∷ i ∷ f i ∷ []) (keep (λ i. ltb 0 (f i)) is) ≡ map (λ i. number ∷ i ∷ g i ∷ []) (keep (λ i. ltb 0 (g i)) is)

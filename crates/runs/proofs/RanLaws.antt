@@ -1,13 +1,13 @@
 -- Laws of a whole run: the loop over the baskets, the notices cleared, and the book that is left. Assumes nothing.
 use mathlib.Core.Path.{◌≡◌, refl, sym, ap, ap₂, ◌∙◌, subst}
 use mathlib.Core.Logic.{◌≢◌, ◌⊎◌, inl, inr}
-use mathlib.Core.List.{List, []}
+use mathlib.Core.List.{List, [], ◌++◌}
 use Prim.Native.Nat.{ℕ, ◌+◌, ◌-◌, ◌*◌, ◌≤◌, ◌<◌}
 use native.Mathlib.Nat.{not-suc-le-zero}
 use native.Mathlib.Decide.{ℕ_discrete}
 use native.Mathlib.Omega.{arith}
 use lib.ListN.{length, get_or, set, take, drop, replicate, length-set, length-replicate, get_or-replicate}
-use lib.Seq.{get_or-set_same, get_or-set_other}
+use lib.Seq.{get_or-set_same, get_or-set_other, length-take-le}
 use borrow.Rule.Slice.PartMut.{put_mid}
 use lib.Dec.{ltb}
 use Rattle.lists.specs.Tests.{pick}
@@ -17,7 +17,7 @@ use Rattle.lists.specs.Parts.{block}
 use Rattle.lists.proofs.TableLaws.{get_or-table, get_or-zeros}
 use Rattle.lists.proofs.PartLaws.{Outside, Stands, length-block}
 use mathlib.Core.Bool.{true}
-use Rattle.rule.specs.Value.{Terms}
+use Rattle.rule.specs.Value.{Terms, no_terms}
 use Rattle.rule.specs.Day.{Day, mark}
 use Rattle.rule.specs.Sound.{all_terms_fit}
 use Rattle.rule.specs.Run.{Allocation, used, allocations, ran, covered_from, covered_to, covered_pair, lots_from, lots_to, match_list, line_list, lines_from}
@@ -26,8 +26,10 @@ use Rattle.rule.proofs.BookLaws.{SoundBook}
 use Rattle.rule.proofs.LayoutLaws.{Shaped, Holds, view-shaped, view-holds, signed-cell, given-kept, stored_is, outside-sizes, outside-position, outside-notice, outside-pair, outside-tally}
 use Rattle.rule.proofs.RunLaws.{Runnable}
 use Rattle.rule.proofs.RunSound.{ran-shaped}
-use Rattle.value.specs.Rated.{Termed}
-use Rattle.value.proofs.TermLaws.{sound-termed}
+use Rattle.value.specs.Rated.{Rated, Rates, Termed, terms_in}
+use Rattle.value.proofs.TermLaws.{sound-termed, terms-length}
+use Rattle.std.proofs.lemmas.List.{get_or_append_left}
+use Rattle.matched.specs.Filled.{book_terms}
 use Rattle.rows.specs.Rows.{Becomes}
 use Rattle.stock.specs.Stock.{Rows}
 use Rattle.records.specs.Booked.{position_at, mark_at, tally_of}
@@ -263,12 +265,29 @@ module _ (b draw : List ℕ) (s : SoundBook b) (h : Runnable (view b) draw) (c d
 -- ---- the whole
 
 module _ (b draw m₀ l₀ : List ℕ) (h : Start b draw m₀ l₀) where
-  pub rates-asked : (rates : List ℕ) → length rates ≡ 32 → Termed (issues_in b) (block b terms_at 192) rates
+  pub rates-asked : Termed (issues_in b) (block b terms_at 192)
   unfolding view
-  rates-asked rates e =
-      sound-termed (issues_in b) (block b terms_at 192) rates h.book.sizes.most
-      (omega (arith, length-block b terms_at 192 (omega (arith, h.book.readable.size)), h.book.sizes.most)) e
+  rates-asked =
+      sound-termed (issues_in b) (block b terms_at 192)
+      (omega (arith, length-block b terms_at 192 (omega (arith, h.book.readable.size)), h.book.sizes.most))
       (subst (λ (ts : List Terms). all_terms_fit (issues_in b) ts ≡ true) (sym (terms-are b h.book.sizes.most (omega (arith, h.book.readable.size)))) h.book.day.terms)
+
+  -- the row of the rates, as long as there are issues, was lent and is back
+  module _ (row : List ℕ) (wide : length row ≡ 32) where
+    lent : length (take (issues_in b) row) ≡ issues_in b
+    lent = length-take-le (issues_in b) row (omega (arith, wide, h.book.sizes.most))
+
+    pub rates-lent : Termed (length (take (issues_in b) row)) (block b terms_at 192)
+    rates-lent = rw lent rates-asked
+
+    pub rates-back : (part : List ℕ) → length part ≡ length (take (issues_in b) row) → Rates (terms_in (length (take (issues_in b) row)) (block b terms_at 192)) part
+        → Rates (book_terms b) (part ++ drop (issues_in b) row)
+    rates-back part e r = record {
+      each = λ i l.
+          let inside : i < issues_in b = omega (arith, terms-length (issues_in b) (block b terms_at 192)) in
+          subst (Rated (get_or (book_terms b) i no_terms)) (sym (get_or_append_left part (drop (issues_in b) row) i 0 (omega (arith, e, lent, inside))))
+          ((subst (λ (n : ℕ). Rates (terms_in n (block b terms_at 192)) part) lent r).each i l);
+    }
 
   pub stock-asked : (cells : List ℕ) → length cells ≡ 384 → Rows b cells
   stock-asked cells e = record { book = h.book.readable.size; participants = h.book.sizes.few; issues = h.book.sizes.most; places = e }

@@ -32,7 +32,6 @@ use Rattle.value.specs.Rated.{Rates}
 use Rattle.filling.specs.Match.{FilledAs}
 use Rattle.filling.specs.declared.Filling.{Filling}
 use Rattle.filling.proofs.MatchLaws.{allocable_most}
-use Rattle.filling.proofs.RowLaws.{length-padded}
 use Rattle.ordering.specs.Ordered.{order_key}
 use Rattle.ordering.proofs.OrderLaws.{ordered-moved}
 use Rattle.stock.specs.Stock.{terms_in, allocable_in, usable_of}
@@ -48,7 +47,7 @@ use Rattle.runs.proofs.BookedLaws.{booked-more, more_yes, more_no}
 use Rattle.runs.proofs.ReadLaws.{notices-read, allocable-read, sized-kept, issues-kept, terms-kept, notices-kept}
 use Rattle.runs.proofs.NextLaws.{runnable, next, next-is, next-part, next-allocated, next-deliverer, next-receiver, next-amount, deliverer-of-day, receiver-of-day, next-filled}
 use Rattle.records.proofs.ListingLaws.{cells-for}
-use Rattle.runs.proofs.ListedLaws.{lines-append, lines_more, entry-is, front-is, all-lots, all-size, lines_are, entries-more, rows_more}
+use Rattle.runs.proofs.ListedLaws.{lines-append, lines_more, entry-is, all-lots, all-size, lines_are, entries-more, rows_more}
 
 -- what may be used of participant d's issues
 abbrev pub may_use : List ℕ → List ℕ → List ℕ → ℕ → ℕ → ℕ
@@ -258,7 +257,7 @@ module _ (b draw m₀ l₀ : List ℕ) (S : Start b draw m₀ l₀) (k : ℕ) (b
       }
 
     module _ (usable' : List ℕ) (all : ℕ) (U : UsableLots c e inside allocable used' usable' all) (orders order : List ℕ) (O : OrderFor c before e usable' all orders order) where
-      pub fill-asks : (lots : List ℕ) → lots ≡ zeros 32 → Fillable c e rates usable' all order lots
+      pub fill-asks : (lots : List ℕ) → lots ≡ zeros (issues_in c) → Fillable c e rates usable' all order lots
       fill-asks lots v = record {
         sized = sized-kept b S.book done c R.booked;
         deliverer = omega (arith, deliverer, S.book.sizes.few);
@@ -275,104 +274,96 @@ module _ (b draw m₀ l₀ : List ℕ) (S : Start b draw m₀ l₀) (k : ℕ) (b
         F : FilledAs a.filled f lots
         F = subst (λ (x : Filled). FilledAs x f lots) (next-filled b draw m₀ l₀ S k basket made inside before P j e l E rates allocable T c used' matches lines n q R usable' all U orders order O) A
 
-        pub lots-wide : length lots ≡ 32
-        lots-wide = ap length F.lots_are ∙ length-padded a.filled.lots (omega (arith, issues, S.book.sizes.most))
+        row-size : length lots ≡ m
+        row-size = ap length F.lots_are ∙ issues
 
-        -- the cells of the day's issues
-        module _ (row : List ℕ) (v : row ≡ take m lots) where
-          row_is : row ≡ a.filled.lots
-          row_is = v ∙ front-is a.filled f lots F m issues
+        all_is : (i : ℕ) → get_or (lots_with f lots) i 0 ≡ all_lots a.filled i
+        all_is = all-lots a.filled f lots F forced
 
-          row-size : length row ≡ m
-          row-size = ap length row_is ∙ issues
+        lines-is : lines_for n (lots_with f lots) ≡ lines_of n a
+        lines-is = lines_are n (lots_with f lots) a (all-size a.filled f lots F forced) all_is
 
-          all_is : (i : ℕ) → get_or (lots_with f row) i 0 ≡ all_lots a.filled i
-          all_is = all-lots a.filled f lots F row row_is forced
+        used-at : (i : ℕ) → i < m → get_or used' (32 * d + i) 0 ≡ used done d i
+        used-at i x = R.gone d i deliverer x
 
-          lines-is : lines_for n (lots_with f row) ≡ lines_of n a
-          lines-is = lines_are n (lots_with f row) a (all-size a.filled f lots F row row_is forced) all_is
+        lines_fit : 3 * length (line_list done) + 3 * length (lines_of (length done) a) ≤ 7392
+        lines_fit = omega (arith, lines-few, ap length (lines_more done a), length-append (line_list done) (lines_of (length done) a))
 
-          used-at : (i : ℕ) → i < m → get_or used' (32 * d + i) 0 ≡ used done d i
-          used-at i x = R.gone d i deliverer x
+        pub write-asks : Writable c k e f lots used' matches lines n q
+        write-asks = record {
+          basket = basket;
+          match_room = omega (arith, R.match_count, matches-few, R.match_size, S.match_places);
+          match_few = omega (arith, R.match_count, matches-few);
+          lots_asked = record {
+            book = R.booked.size;
+            deliverer = omega (arith, deliverer, S.book.sizes.few);
+            receiver = omega (arith, receiver, S.book.sizes.few);
+            apart = λ x. z.apart (next-deliverer b draw m₀ l₀ S k basket made inside before P j e l E ∙ x ∙ sym (next-receiver b draw m₀ l₀ S k basket made inside before P j e l E));
+            few = omega (arith, row-size, S.book.sizes.most);
+            gone = R.places;
+            small = λ i x. omega (arith, used-at i (omega (arith, row-size)), used-few i (omega (arith, row-size)), all_is i, lots-few i (omega (arith, row-size, issues)));
+            forced = omega (arith, F.forced, forced, ap length F.lots_are);
+            forced_small = omega (arith, sum_is, lots-few a.filled.forced (omega (arith, forced, issues)));
+            room = omega (arith, R.line_count, R.line_size, lines_fit, ap length lines-is, ap (λ (x : ℕ). length (lines_of x a)) R.match_count, S.line_places);
+          };
+        }
+          where
+            sum_is : get_or lots f.forced 0 + f.forced_lots.0 ≡ all_lots a.filled a.filled.forced
+            sum_is =
+                sym (get_or-set_same lots f.forced (get_or lots f.forced 0 + f.forced_lots.0) 0 (omega (arith, F.forced, forced, ap length F.lots_are)))
+                ∙ all_is f.forced ∙ ap (all_lots a.filled) F.forced
 
-          lines_fit : 3 * length (line_list done) + 3 * length (lines_of (length done) a) ≤ 7392
-          lines_fit = omega (arith, lines-few, ap length (lines_more done a), length-append (line_list done) (lines_of (length done) a))
+        -- ---- what is left
 
-          pub write-asks : Writable c k e f row used' matches lines n q
-          write-asks = record {
-            basket = basket;
-            match_room = omega (arith, R.match_count, matches-few, R.match_size, S.match_places);
-            match_few = omega (arith, R.match_count, matches-few);
-            lots_asked = record {
-              book = R.booked.size;
-              deliverer = omega (arith, deliverer, S.book.sizes.few);
-              receiver = omega (arith, receiver, S.book.sizes.few);
-              apart = λ x. z.apart (next-deliverer b draw m₀ l₀ S k basket made inside before P j e l E ∙ x ∙ sym (next-receiver b draw m₀ l₀ S k basket made inside before P j e l E));
-              few = omega (arith, row-size, S.book.sizes.most);
-              gone = R.places;
-              small = λ i x. omega (arith, used-at i (omega (arith, row-size)), used-few i (omega (arith, row-size)), all_is i, lots-few i (omega (arith, row-size, issues)));
-              forced = omega (arith, F.forced, forced, ap length row_is);
-              forced_small = omega (arith, sum_is, lots-few a.filled.forced (omega (arith, forced, issues)));
-              room = omega (arith, R.line_count, R.line_size, lines_fit, ap length lines-is, ap (λ (x : ℕ). length (lines_of x a)) R.match_count, S.line_places);
-            };
-          }
+        module _ (c' used'' matches' lines' : List ℕ) (n' q' : ℕ) (W : Wrote c k e f lots used' matches lines n q c' used'' matches' lines' n' q') where
+          yen : YenMoved c W.between a.basket a.match.deliverer a.match.receiver a.filled.covered
+          unfolding next_of allocate
+          yen = subst (λ (x : ℕ). YenMoved c W.between k d r x) F.covered W.yen
+
+          moved : LotsMoved W.between c' a.match.deliverer a.match.receiver (lots_with f lots)
+          unfolding next_of allocate
+          moved = W.moved
+
+          entry : entry_of k d r e.amount.0 f ≡ match_entry a
+          unfolding next_of allocate match_entry
+          entry = entry-is a.filled f lots F k d r e.amount.0
+
+          gone : (p i : ℕ) → p < participants_in b → i < m → get_or used'' (32 * p + i) 0 ≡ used (done ++ (a ∷ [])) p i
+          gone p i x v = cases (ℕ_discrete d p)
             where
-              sum_is : get_or row f.forced 0 + f.forced_lots.0 ≡ all_lots a.filled a.filled.forced
-              sum_is =
-                  sym (get_or-set_same row f.forced (get_or row f.forced 0 + f.forced_lots.0) 0 (omega (arith, F.forced, forced, ap length row_is)))
-                  ∙ all_is f.forced ∙ ap (all_lots a.filled) F.forced
+              cases : Dec (d ≡ p) → get_or used'' (32 * p + i) 0 ≡ used (done ++ (a ∷ [])) p i
+              cases (yes e) =
+                  subst (λ (o : ℕ). get_or used'' (32 * o + i) 0 ≡ used (done ++ (a ∷ [])) o i) e
+                  (W.gone.more i (omega (arith, row-size)) ∙ ap₂ (λ (o w : ℕ). o + w) (used-at i v) (ap (λ (v : List ℕ). get_or v i 0) F.lots_are) ∙ sym (used-more i))
+              cases (no e) =
+                  W.gone.kept (32 * p + i) (λ o w s. e (omega (arith, row-size, S.book.sizes.most))) ∙ R.gone p i x v ∙ sym (used-else p i e)
 
-          -- ---- what is left
+          -- less may be used than before, so that the order is still right
+          less-usable : (i : ℕ) → i < m → may_use inside allocable used'' d i ≤ get_or usable' i 0
+          less-usable i x =
+              omega (
+                arith,
+                usable_at usable' all U i (omega (arith, issues-same)),
+                usable-falls (get_or inside i 0) (get_or allocable (32 * d + i) 0) (get_or used' (32 * d + i) 0) (get_or used'' (32 * d + i) 0) (omega (arith, W.gone.more i (omega (arith, row-size)))),
+              )
 
-          module _ (c' used'' matches' lines' : List ℕ) (n' q' : ℕ) (W : Wrote c k e f row used' matches lines n q c' used'' matches' lines' n' q') where
-            yen : YenMoved c W.between a.basket a.match.deliverer a.match.receiver a.filled.covered
-            unfolding next_of allocate
-            yen = subst (λ (x : ℕ). YenMoved c W.between k d r x) F.covered W.yen
+          pub order-next : 0 < length order → OrderedAt b before e (may_use inside allocable used'' d) order
+          order-next x =
+              ordered-moved issues-same (λ i v. ap (λ (w : ℕ). order_key pref w (get_or before (32 * d + i) 0)) (notice-same d i deliverer-few (omega (arith, issues-same))))
+              (λ i v. less-usable i (omega (arith, issues-same))) (O.listed x)
 
-            moved : LotsMoved W.between c' a.match.deliverer a.match.receiver (lots_with f row)
-            unfolding next_of allocate
-            moved = W.moved
-
-            entry : entry_of k d r e.amount.0 f ≡ match_entry a
-            unfolding next_of allocate match_entry
-            entry = entry-is a.filled f lots F k d r e.amount.0
-
-            gone : (p i : ℕ) → p < participants_in b → i < m → get_or used'' (32 * p + i) 0 ≡ used (done ++ (a ∷ [])) p i
-            gone p i x v = cases (ℕ_discrete d p)
-              where
-                cases : Dec (d ≡ p) → get_or used'' (32 * p + i) 0 ≡ used (done ++ (a ∷ [])) p i
-                cases (yes e) =
-                    subst (λ (o : ℕ). get_or used'' (32 * o + i) 0 ≡ used (done ++ (a ∷ [])) o i) e
-                    (W.gone.more i (omega (arith, row-size)) ∙ ap₂ (λ (o w : ℕ). o + w) (used-at i v) (ap (λ (v : List ℕ). get_or v i 0) row_is) ∙ sym (used-more i))
-                cases (no e) =
-                    W.gone.kept (32 * p + i) (λ o w s. e (omega (arith, row-size, S.book.sizes.most))) ∙ R.gone p i x v ∙ sym (used-else p i e)
-
-            -- less may be used than before, so that the order is still right
-            less-usable : (i : ℕ) → i < m → may_use inside allocable used'' d i ≤ get_or usable' i 0
-            less-usable i x =
-                omega (
-                  arith,
-                  usable_at usable' all U i (omega (arith, issues-same)),
-                  usable-falls (get_or inside i 0) (get_or allocable (32 * d + i) 0) (get_or used' (32 * d + i) 0) (get_or used'' (32 * d + i) 0) (omega (arith, W.gone.more i (omega (arith, row-size)))),
-                )
-
-            pub order-next : 0 < length order → OrderedAt b before e (may_use inside allocable used'' d) order
-            order-next x =
-                ordered-moved issues-same (λ i v. ap (λ (w : ℕ). order_key pref w (get_or before (32 * d + i) 0)) (notice-same d i deliverer-few (omega (arith, issues-same))))
-                (λ i v. less-usable i (omega (arith, issues-same))) (O.listed x)
-
-            pub running_more : Running b m₀ l₀ (done_at (view b) draw k (j + 1)) c' used'' matches' lines' n' q'
-            running_more =
-                let both : (lines' ≡ over l₀ 0 (joined (line_list (done ++ (a ∷ []))))) × (q' ≡ length (line_list (done ++ (a ∷ [])))) =
-                rows_more l₀ lines lines' done a n q q' (lots_with f row) R.rows R.match_count R.line_count (omega (arith, lines_fit, S.line_places)) lines-is W.listed in
-                subst (λ (x : List Allocation). Running b m₀ l₀ x c' used'' matches' lines' n' q') (sym (next-is b draw m₀ l₀ S k basket made inside before P j e l E)) (record {
-                  booked = booked-more b S.book draw h done a part z c W.between c' (lots_with f row) R.booked yen moved (all-size a.filled f lots F row row_is forced ∙ issues) all_is;
-                  places = W.gone.size ∙ R.places;
-                  gone = gone;
-                  match_size = ap length W.entry ∙ length_over matches (entry_of k d r e.amount.0 f) (7 * n) (omega (arith, write-asks.match_room)) ∙ R.match_size;
-                  line_size = ap length W.listed.cells ∙ length_over lines (joined (lines_for n (lots_with f row))) (3 * q) (omega (arith, write-asks.lots_asked.room, cells-for n (lots_with f row))) ∙ R.line_size;
-                  entries = entries-more m₀ matches matches' done a n R.entries R.match_count (omega (arith, matches-few, S.match_places)) (W.entry ∙ ap (over matches (7 * n)) entry);
-                  rows = both.0;
-                  match_count = W.matched ∙ omega (arith, R.match_count, length-append done (a ∷ []));
-                  line_count = both.1;
-                })
+          pub running_more : Running b m₀ l₀ (done_at (view b) draw k (j + 1)) c' used'' matches' lines' n' q'
+          running_more =
+              let both : (lines' ≡ over l₀ 0 (joined (line_list (done ++ (a ∷ []))))) × (q' ≡ length (line_list (done ++ (a ∷ [])))) =
+              rows_more l₀ lines lines' done a n q q' (lots_with f lots) R.rows R.match_count R.line_count (omega (arith, lines_fit, S.line_places)) lines-is W.listed in
+              subst (λ (x : List Allocation). Running b m₀ l₀ x c' used'' matches' lines' n' q') (sym (next-is b draw m₀ l₀ S k basket made inside before P j e l E)) (record {
+                booked = booked-more b S.book draw h done a part z c W.between c' (lots_with f lots) R.booked yen moved (all-size a.filled f lots F forced ∙ issues) all_is;
+                places = W.gone.size ∙ R.places;
+                gone = gone;
+                match_size = ap length W.entry ∙ length_over matches (entry_of k d r e.amount.0 f) (7 * n) (omega (arith, write-asks.match_room)) ∙ R.match_size;
+                line_size = ap length W.listed.cells ∙ length_over lines (joined (lines_for n (lots_with f lots))) (3 * q) (omega (arith, write-asks.lots_asked.room, cells-for n (lots_with f lots))) ∙ R.line_size;
+                entries = entries-more m₀ matches matches' done a n R.entries R.match_count (omega (arith, matches-few, S.match_places)) (W.entry ∙ ap (over matches (7 * n)) entry);
+                rows = both.0;
+                match_count = W.matched ∙ omega (arith, R.match_count, length-append done (a ∷ []));
+                line_count = both.1;
+              })

@@ -32,7 +32,8 @@ fn allocate(
     let mut usable = [0u64; 32];
     let mut done = counts;
     for m in plan {
-        let mut lots = [0u64; 32];
+        let mut places = [0u64; 32];
+        let lots = &mut places[..issues];
         let all = matched::usable_lots(&*book, *m, rates, inside, allocable, &*used, &mut usable);
         orders::order_for(
             &*book,
@@ -44,13 +45,13 @@ fn allocate(
             &mut *orders,
             &mut order,
         );
-        let f = matched::fill_next(&*book, basket, *m, rates, &usable, all, &order, &mut lots);
+        let f = matched::fill_next(&*book, basket, *m, rates, &usable, all, &order, &mut *lots);
         done = matched::write_next(
             &mut *book,
             basket,
             *m,
             f,
-            &mut lots[..issues],
+            lots,
             &mut *used,
             &mut *matches,
             &mut *lines,

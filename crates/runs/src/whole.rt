@@ -66,7 +66,7 @@ pub fn run(book: &mut [u64], draw: &[u64], matches: &mut [u64], lines: &mut [u64
 {
     let issues = book[layout::ISSUES] as usize;
     let mut rates = [0u64; 32];
-    value::rates_of(&book[layout::TERMS..layout::RECEIPTS], issues, &mut rates);
+    value::rates_of(&book[layout::TERMS..layout::RECEIPTS], &mut rates[..issues]);
     let mut allocable = [0u64; 384];
     stock::allocable_rows(&*book, &mut allocable[..]);
     let counts = run_baskets(&mut *book, draw, &rates, &allocable[..], matches, lines);

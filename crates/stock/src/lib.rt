@@ -83,7 +83,7 @@ pub fn usable_row(
     for i in 0..issues {
         let lots = usable(inside[i], Lots(allocable[i]), Lots(used[i]));
         row[i] = lots.0;
-        all = value::add_value(all, Rate(rates[i]), lots);
+        all = Rate(rates[i]).add_value(all, lots);
     }
     all
 }

@@ -1,6 +1,8 @@
-use Rattle.std.proofs.Common.{◌≡◌, ◌<◌, ℕ, List, length, get_or, arith, length-take-le, refl, sym}
+use Rattle.std.proofs.Common.{◌≡◌, ◌∙◌, ap, ◌<◌, ℕ, List, length, get_or, arith, refl, sym}
 use Rattle.std.proofs.lemmas.List.{get_or_default}
-use Rattle.runs.proofs.AllocateLaws.{allocating-none, usable-asked, order-asked, fill-asked, lots-long, write-asked, allocating-more, allocating-all, book-size, orders-size, used-size, matches-size, lines-size}
+use Rattle.lists.specs.Tables.{zeros}
+use Rattle.lists.proofs.TableLaws.{take-zeros}
+use Rattle.runs.proofs.AllocateLaws.{allocating-none, usable-asked, order-asked, issues-same, issues-few, fill-asked, write-asked, allocating-more, allocating-all, book-size, orders-size, used-size, matches-size, lines-size}
 use Rattle.matching.specs.declared.Match.{Match}
 use Rattle.runs.proofs.basket.allocate.Goals as goal
 
@@ -24,15 +26,9 @@ order_for-requires c =
 
 pub fill_next-f-requires : goal.fill_next-f-requires
 fill_next-f-requires c =
-    fill-asked _ _ _ _ _ _ _ _ _ _ _ _ _ c.loop-m.invariant _ c.loop-m-test.true (item _ _ _ c.loop-m-test.true) c.usable_lots-all.ensures c.order_for.ensures _ refl c.requires
-
-pub slice_bounds-lots-end : goal.slice_bounds-lots-end
-slice_bounds-lots-end c =
-    lots-long _ _ _ _ _ _ _ _ _ _ _ _ _ c.loop-m.invariant _ c.loop-m-test.true (item _ _ _ c.loop-m-test.true) c.usable_lots-all.ensures c.order_for.ensures c.fill_next-f.ensures c.requires
-
-pub slice_bounds-write_next-end : goal.slice_bounds-write_next-end
-slice_bounds-write_next-end c =
-    sym (length-take-le _ _ (lots-long _ _ _ _ _ _ _ _ _ _ _ _ _ c.loop-m.invariant _ c.loop-m-test.true (item _ _ _ c.loop-m-test.true) c.usable_lots-all.ensures c.order_for.ensures c.fill_next-f.ensures c.requires))
+    fill-asked _ _ _ _ _ _ _ _ _ _ _ _ _ c.loop-m.invariant _ c.loop-m-test.true (item _ _ _ c.loop-m-test.true) c.usable_lots-all.ensures c.order_for.ensures _
+    (take-zeros _ 32 (issues-few _ _ _ _ _ _ _ _ _ _ _ _ _ c.loop-m.invariant _ c.loop-m-test.true (item _ _ _ c.loop-m-test.true) c.requires)
+    ∙ ap zeros (issues-same _ _ _ _ _ _ _ _ _ _ _ _ _ c.loop-m.invariant _ c.loop-m-test.true (item _ _ _ c.loop-m-test.true) c.requires)) c.requires
 
 pub write_next-done-requires : goal.write_next-done-requires
 write_next-done-requires c =

@@ -1,6 +1,6 @@
 -- `runs::whole::run` meets its contract. Assumes nothing.
 use Rattle.std.proofs.Common.{◌∙◌, arith, length-set, refl, sym}
-use Rattle.runs.proofs.RanLaws.{rates-asked, stock-asked, clear-asked, run-done, runs-few}
+use Rattle.runs.proofs.RanLaws.{rates-lent, rates-back, stock-asked, clear-asked, run-done, runs-few}
 use Rattle.runs.proofs.whole.run.Goals as goal
 
 pub bounds-book-1 : goal.bounds-book-1
@@ -10,7 +10,7 @@ pub slice_bounds-rates_of-end : goal.slice_bounds-rates_of-end
 slice_bounds-rates_of-end c = omega (arith, c.requires.book.readable.size)
 
 pub rates_of-requires : goal.rates_of-requires
-rates_of-requires c = rates-asked _ _ _ _ c.requires _ refl
+rates_of-requires c = rates-lent _ _ _ _ c.requires _ refl
 
 pub allocable_rows-requires : goal.allocable_rows-requires
 allocable_rows-requires c = stock-asked _ _ _ _ c.requires _ refl
@@ -19,7 +19,7 @@ pub slice_bounds-run_baskets-end : goal.slice_bounds-run_baskets-end
 slice_bounds-run_baskets-end c = sym c.allocable_rows.ensures.places
 
 pub run_baskets-counts-requires : goal.run_baskets-counts-requires
-run_baskets-counts-requires c = record { start = c.requires; tables = record { rated = c.rates_of.ensures; stock = c.allocable_rows.ensures } }
+run_baskets-counts-requires c = record { start = c.requires; tables = record { rated = rates-back _ _ _ _ c.requires _ refl _ c.rates_of.auto.rates c.rates_of.ensures; stock = c.allocable_rows.ensures } }
 
 pub clear_notices-requires : goal.clear_notices-requires
 clear_notices-requires c = clear-asked _ _ _ _ c.requires c.run_baskets-counts.ensures
