@@ -99,7 +99,8 @@ pub fn stands_before(a: &[u64], b: &[u64]) -> bool
     a.cmp(b).is_lt()
 }
 
-// Is each of the codes one, and do they rise strictly?
+// Is each of the codes one, and do they rise strictly? The table of a book has room for more codes than the day has issues, so
+// their number stands beside the cells.
 pub fn codes_right(cells: &[u64], issues: usize) -> bool
     requires { Holds cells.now issues }
     ensures { result ≡ codes_right (grid cells.now 0 12 issues 12) }
