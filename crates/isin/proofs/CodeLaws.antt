@@ -38,13 +38,13 @@ module _ (c : ℕ) where
   unfolding digit
   is-digit h = (leb-true 48 c (and_left (leb 48 c) (leb c 57) h), leb-true c 57 (and_right (leb 48 c) (leb c 57) h))
 
-  pub a-to-z : capital c ≡ true → (65 ≤ c) × (c ≤ 90)
+  is-capital : capital c ≡ true → (65 ≤ c) × (c ≤ 90)
   unfolding capital
-  a-to-z h = (leb-true 65 c (and_left (leb 65 c) (leb c 90) h), leb-true c 90 (and_right (leb 65 c) (leb c 90) h))
+  is-capital h = (leb-true 65 c (and_left (leb 65 c) (leb c 90) h), leb-true c 90 (and_right (leb 65 c) (leb c 90) h))
 
   no_digit : capital c ≡ true → digit c ≡ false
   unfolding digit
-  no_digit h = rw (lt-leb c 57 (omega (arith, a-to-z h))) (and-false (leb 48 c))
+  no_digit h = rw (lt-leb c 57 (omega (arith, is-capital h))) (and-false (leb 48 c))
 
   -- the check digit and the sum make a multiple of ten
   no_check : (sum : ℕ) → digit c ≡ false → eqb c (48 + (10 - sum % 10) % 10) ≡ false
@@ -80,12 +80,10 @@ spread-more (c ∷ cs) ys = go (digit c) (c - 48) ((c - 55) / 10) ((c - 55) % 10
     go false x y z e = rw e
 
 -- both digits of a capital at once
-pub at_once : (s : Sums) (c : ℕ) → capital c ≡ true
+pub at_once : (s : Sums) (c : ℕ) → 65 ≤ c → c ≤ 90
     → record { twice = s.twice + 2 * (c - 55) - (c - 55) / 10 - 9 * ((c - 55) / 5); once = s.once + (c - 55) - 8 * ((c - 55) / 10) } ≡ with_capital s c
 unfolding with_capital with_digit
-at_once s c h =
-    let l : (65 ≤ c) × (c ≤ 90) = a-to-z c h in
-    ap₂ (λ (x y : ℕ). record { twice = x; once = y }) (omega arith) (omega arith)
+at_once s c h k = ap₂ (λ (x y : ℕ). record { twice = x; once = y }) (omega arith) (omega arith)
 
 sums-character : (ds : List ℕ) (c : ℕ) → with_character (sums_of ds) c ≡ sums_of (reverse (spread (c ∷ [])) ++ ds)
 unfolding with_character with_capital with_digit sums_of doubled spread

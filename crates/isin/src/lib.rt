@@ -1,11 +1,16 @@
 // Codes of issues: ISO 6166 and its check digit, the codes of Japan, and their order. A code is 12 cells.
 #![tactic(auto)]
 
-ghost use Rattle.std.specs.Prelude.{◌≡◌, true, ◌+◌, ◌*◌, ◌/◌, ◌%◌, ◌≤◌, max};
+ghost use Rattle.std.specs.Prelude.{◌≡◌, ◌+◌, ◌*◌, ◌/◌, ◌%◌, ◌≤◌, max};
 ghost use Rattle.lists.specs.Parts.{grid};
-ghost use Rattle.rule.specs.Isin.{capital, is_isin, is_code, before, codes_right};
+ghost use Rattle.rule.specs.Isin.{is_isin, is_code, before, codes_right};
 ghost use Rattle.isin.specs.Code.{of_japan, Holds};
 ghost use Rattle.isin.specs.Summing.{Within, with_digit, with_capital};
+
+// A code begins with the capitals of its country. Its check digit is the last character.
+const COUNTRY: usize = 2;
+
+const CHECK_DIGIT: usize = 11;
 
 // Two sums of the digits met so far: with the last one doubled, and with the last one as it is. A digit that follows moves
 // each digit to the other weight, so both are kept, and a code is read once, from its first character on.
@@ -30,7 +35,7 @@ impl Sums {
     // A capital stands for two digits, A for 10 to Z for 35. Both are added at once, so the sums do not change places. With
     // ones = value - 10 * tens, the digits of the doubled ones make 2 * ones - 9 * (fives - 2 * tens).
     fn with_capital(self, c: u64) -> Sums
-        requires { (capital c ≡ true) × Within self 900 }
+        requires { (65 ≤ c) × (c ≤ 90) × Within self 900 }
         ensures { (result ≡ with_capital self c) × Within result (max self.twice self.once + 18) }
     {
         let value = c - 55;
@@ -61,9 +66,9 @@ pub fn is_isin(code: &[u64]) -> bool
     }
     let mut sums = Sums { twice: 0, once: 0 };
     for (i, c) in code.iter().enumerate() {
-        sums = if i >= 2 && (48..=57).contains(c) {
+        sums = if i >= COUNTRY && (48..=57).contains(c) {
             sums.with_digit(*c - 48)
-        } else if i < 11 && (65..=90).contains(c) {
+        } else if i < CHECK_DIGIT && (65..=90).contains(c) {
             sums.with_capital(*c)
         } else {
             return false;
@@ -94,7 +99,8 @@ pub fn stands_before(a: &[u64], b: &[u64]) -> bool
     a.cmp(b).is_lt()
 }
 
-// Is each of the codes one, and do they rise strictly?
+// Is each of the codes one, and do they rise strictly? The table of a book has room for more codes than the day has issues, so
+// their number stands beside the cells.
 pub fn codes_right(cells: &[u64], issues: usize) -> bool
     requires { Holds cells.now issues }
     ensures { result ≡ codes_right (grid cells.now 0 12 issues 12) }

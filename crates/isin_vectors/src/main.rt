@@ -2,137 +2,165 @@
 // codes with what `stands_before` and `codes_right` say of them.
 #![tactic(auto)]
 
-ghost use Rattle.std.specs.Prelude.{◌+◌, ◌≤◌, length};
+ghost use Rattle.std.specs.Prelude.{◌<◌, ◌≤◌};
 
-// A text into the cells from `at` on.
-fn widen(text: &[u8], cells: &mut [u64], at: usize)
-    requires { at + length text.now ≤ length cells.old }
+use std::io::{self, Write};
+
+// The word if the test holds, else a dash.
+fn said(word: &str, holds: bool) -> &str {
+    if holds { word } else { "-" }
+}
+
+fn say_of(out: &mut impl Write, code: &[u64]) -> io::Result<()> {
+    let isin = said("isin", isin::is_isin(code));
+    let of_issue = said("code", isin::is_code(code));
+    writeln!(out, " {isin} {of_issue}")
+}
+
+fn one<const N: usize>(out: &mut impl Write, text: &[u8; N]) -> io::Result<()>
+    requires { N ≤ 24 }
 {
-    let mut i = 0;
-    while i < text.len() {
-        cells[at + i] = lists::wide(text[i]);
-        i += 1;
-    }
+    out.write_all(text)?;
+    say_of(out, &text.map(u64::from))
 }
 
-fn say(word: &[u8], holds: bool) {
-    if holds {
-        io::write_all(1, word);
-        return;
+fn each(out: &mut impl Write, codes: &[&[u8; 12]]) -> io::Result<()> {
+    for code in codes {
+        one(out, code)?;
     }
-    io::write_all(1, b" -");
-}
-
-// The code is the first n cells.
-fn say_of(cells: &[u64], n: usize) {
-    if n > cells.len() {
-        return;
-    }
-    say(b" isin", isin::is_isin(&cells[0..n]));
-    say(b" code", isin::is_code(&cells[0..n]));
-    io::write_all(1, b"\n");
-}
-
-fn say_of_two(codes: &[u64]) {
-    if codes.len() < 24 {
-        return;
-    }
-    say(
-        b" before",
-        isin::stands_before(&codes[0..12], &codes[12..24]),
-    );
-    say(b" right", isin::codes_right(codes, 2));
-    io::write_all(1, b"\n");
-}
-
-fn one(text: &[u8]) {
-    let n = text.len();
-    if n > 24 {
-        return;
-    }
-    let mut cells = [0u64; 24];
-    widen(text, &mut cells, 0);
-    io::write_all(1, text);
-    say_of(&cells, n);
+    Ok(())
 }
 
 // A code in which one cell is another number than a byte.
-fn with_cell(text: &[u8; 12], at: usize, value: u64) {
-    if at >= 12 {
-        return;
-    }
-    let mut cells = [0u64; 24];
-    widen(text, &mut cells, 0);
-    cells[at] = value;
-    io::write_all(1, text);
-    io::write_all(1, b" with ");
-    io::print_decimal(1, value);
-    say_of(&cells, 12);
-}
-
-fn two(a: &[u8; 12], b: &[u8; 12]) {
-    let mut cells = [0u64; 24];
-    widen(a, &mut cells, 0);
-    widen(b, &mut cells, 12);
-    io::write_all(1, a);
-    io::write_all(1, b" ");
-    io::write_all(1, b);
-    say_of_two(&cells);
-}
-
-// Codes of 12 bytes, a blank between each and the next.
-fn each(text: &[u8])
-    requires { length text.now ≤ 1000 }
+fn with_cell(out: &mut impl Write, text: &[u8; 12], at: usize, value: u64) -> io::Result<()>
+    requires { at < 12 }
 {
-    let mut o = 0;
-    while o + 12 <= text.len() {
-        let e = o + 12;
-        one(&text[o..e]);
-        o = e + 1;
-    }
+    let mut code = text.map(u64::from);
+    code[at] = value;
+    out.write_all(text)?;
+    write!(out, " with {value}")?;
+    say_of(out, &code)
 }
 
-fn main() {
+fn two(out: &mut impl Write, a: &[u8; 12], b: &[u8; 12]) -> io::Result<()> {
+    let codes = [a.map(u64::from), b.map(u64::from)];
+    let before = said("before", isin::stands_before(&codes[0], &codes[1]));
+    let right = said("right", isin::codes_right(codes.as_flattened(), 2));
+    out.write_all(a)?;
+    out.write_all(b" ")?;
+    out.write_all(b)?;
+    writeln!(out, " {before} {right}")
+}
+
+fn main(rt: HostRuntime) -> io::Result<()> {
+    let out = &mut io::writer(&rt);
     // Apple, Microsoft, BAE Systems, SAP, TotalEnergies, Nestle, Treasury Corporation of Victoria
     each(
-        b"US0378331005 US5949181045 GB0002634946 DE0007164600 FR0000120271 CH0038863350 AU0000XVGZA3",
-    );
+        out,
+        &[
+            b"US0378331005",
+            b"US5949181045",
+            b"GB0002634946",
+            b"DE0007164600",
+            b"FR0000120271",
+            b"CH0038863350",
+            b"AU0000XVGZA3",
+        ],
+    )?;
     // Barrick, Heineken, Santander, Ericsson, Eni, Samsung
-    each(b"CA0679011084 NL0000009165 ES0113900J37 SE0000108656 IT0003132476 KR7005930003");
+    each(
+        out,
+        &[
+            b"CA0679011084",
+            b"NL0000009165",
+            b"ES0113900J37",
+            b"SE0000108656",
+            b"IT0003132476",
+            b"KR7005930003",
+        ],
+    )?;
     // Toyota, Sony, Mitsubishi UFJ, Nintendo, SoftBank, Hitachi; the codes of the paper's worked days, right and wrong
-    each(b"JP3633400001 JP3435000009 JP3902900004 JP3756600007 JP3436100006 JP3788600009");
-    each(b"JP0000000018 JP0000000026 JP0000000019");
+    each(
+        out,
+        &[
+            b"JP3633400001",
+            b"JP3435000009",
+            b"JP3902900004",
+            b"JP3756600007",
+            b"JP3436100006",
+            b"JP3788600009",
+        ],
+    )?;
+    each(out, &[b"JP0000000018", b"JP0000000026", b"JP0000000019"])?;
     // every other check digit, and a letter for it that would fill the sum
-    each(b"JP3633400000 JP3633400002 JP3633400003 JP3633400004 JP3633400005");
-    each(b"JP3633400006 JP3633400007 JP3633400008 JP3633400009 JP363340000G");
+    each(
+        out,
+        &[
+            b"JP3633400000",
+            b"JP3633400002",
+            b"JP3633400003",
+            b"JP3633400004",
+            b"JP3633400005",
+        ],
+    )?;
+    each(
+        out,
+        &[
+            b"JP3633400006",
+            b"JP3633400007",
+            b"JP3633400008",
+            b"JP3633400009",
+            b"JP363340000G",
+        ],
+    )?;
     // two digits in the other order: the check digit sees it, save for 9 and 0
-    each(b"JP6333400001 US0373831005 JP3092900004");
+    each(out, &[b"JP6333400001", b"US0373831005", b"JP3092900004"])?;
     // a byte that is no digit and no capital, the letter O for the digit 0
     each(
-        b"AU0000xVGZA3 JP36334 0001 JP36334/0001 JP36334:0001 JP36334@0001 JP36334[0001 JP36334\xb00001 JP36334O0001",
-    );
+        out,
+        &[
+            b"AU0000xVGZA3",
+            b"JP36334 0001",
+            b"JP36334/0001",
+            b"JP36334:0001",
+            b"JP36334@0001",
+            b"JP36334[0001",
+            b"JP36334\xb00001",
+            b"JP36334O0001",
+        ],
+    )?;
     // a country that is none, or another
     each(
-        b"jp3633400001 Jp3633400001 3P3633400009 J33633400008 JQ3633400000 KP3633400008 PJ3633400001",
-    );
+        out,
+        &[
+            b"jp3633400001",
+            b"Jp3633400001",
+            b"3P3633400009",
+            b"J33633400008",
+            b"JQ3633400000",
+            b"KP3633400008",
+            b"PJ3633400001",
+        ],
+    )?;
     // another length
-    one(b"JP363340000");
-    one(b"JP36334000016");
-    one(b"J");
-    one(b"");
+    one(out, b"JP363340000")?;
+    one(out, b"JP36334000016")?;
+    one(out, b"J")?;
+    one(out, b"")?;
     // cells that are no bytes: 256 more than a character, and the largest
-    with_cell(b"JP3633400001", 0, 330);
-    with_cell(b"JP3633400001", 4, 307);
-    with_cell(b"JP3633400001", 11, 305);
-    with_cell(b"JP3633400001", 7, 18446744073709551615);
-    with_cell(b"JP3633400001", 11, 18446744073709551615);
+    with_cell(out, b"JP3633400001", 0, 330)?;
+    with_cell(out, b"JP3633400001", 4, 307)?;
+    with_cell(out, b"JP3633400001", 11, 305)?;
+    with_cell(out, b"JP3633400001", 7, 18446744073709551615)?;
+    with_cell(out, b"JP3633400001", 11, 18446744073709551615)?;
     // equal, rising, falling, another last byte, one of the two no code
-    two(b"JP3633400001", b"JP3633400001");
-    two(b"JP3435000009", b"JP3633400001");
-    two(b"JP3633400001", b"JP3435000009");
-    two(b"JP0000000018", b"JP0000000026");
-    two(b"JP3633400001", b"JP3633400002");
-    two(b"JP3633400002", b"JP3633400001");
-    two(b"DE0007164600", b"JP3633400001");
-    two(b"JP3633400001", b"US0378331005");
+    two(out, b"JP3633400001", b"JP3633400001")?;
+    two(out, b"JP3435000009", b"JP3633400001")?;
+    two(out, b"JP3633400001", b"JP3435000009")?;
+    two(out, b"JP0000000018", b"JP0000000026")?;
+    two(out, b"JP3633400001", b"JP3633400002")?;
+    two(out, b"JP3633400002", b"JP3633400001")?;
+    two(out, b"DE0007164600", b"JP3633400001")?;
+    two(out, b"JP3633400001", b"US0378331005")?;
+    Ok(())
 }
