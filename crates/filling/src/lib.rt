@@ -189,8 +189,7 @@ impl Supply<'_> {
             reached,
         };
         let turn = standing.next(pass, Lots(self.usable[i]), amount)?;
-        let taken = turn.lots;
-        lots[i] = taken.0;
+        lots[i] = turn.lots.0;
         Some(turn.reached)
     }
 }
