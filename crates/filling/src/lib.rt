@@ -52,7 +52,7 @@ pub struct Filling {
 }
 
 // What a match may use of its deliverer's lots, and in which order: `all` is what all usable lots are worth. There are six terms to an
-// issue, and the order need not name every issue.
+// issue, and the order need not name every issue. Rows of cells, no row of structs: terms and notified lots stand so in the book.
 #[derive(Clone, Copy)]
 pub struct Supply<'a> {
     pub terms: &'a [u64],
@@ -150,7 +150,8 @@ impl Supply<'_> {
         }
     }
 
-    // "A drawn match has three passes .. filling leaves both walks when the amount is reached".
+    // "A drawn match has three passes .. filling leaves both walks when the amount is reached". So its inner loop is no function that a
+    // preferential match has too.
     fn fill_drawn(&self, amount: Yen, lots: &mut [u64])
         requires { Wanted (length self.now.usable.now) amount.0 lots.old }
         ensures { lots.new ≡ (fill_drawn (terms_in (length self.now.usable.now) self.now.terms.now) self.now.usable.now self.now.order.now amount.0).lots }
@@ -189,8 +190,7 @@ impl Supply<'_> {
             reached,
         };
         let turn = standing.next(pass, Lots(self.usable[i]), amount)?;
-        let taken = turn.lots;
-        lots[i] = taken.0;
+        lots[i] = turn.lots.0;
         Some(turn.reached)
     }
 }

@@ -10,6 +10,9 @@ ghost use Rattle.forced.specs.Choice.{Termed, Listed, noted, is_eligible, fifth_
 
 use rule::Lots;
 
+// The kind of the ten-year issues.
+const TEN_YEAR: u64 = 2;
+
 // Going down the issues: the one with the most notified lots so far, which has some.
 #[derive(Clone, Copy)]
 struct Best {
@@ -99,7 +102,7 @@ fn fifth_largest(terms: &[u64], kinds: &[u8; 7], issues: usize) -> usize
     for i in (0..issues).rev() {
         if baskets::is_eligible(terms, 6 * i, kinds) {
             let kind = terms[6 * i];
-            if kind == 2 {
+            if kind == TEN_YEAR {
                 ten = with_issue(ten, i);
             }
             any = with_issue(any, i);

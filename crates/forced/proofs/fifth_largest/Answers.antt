@@ -1,17 +1,17 @@
 use Rattle.std.proofs.Common.{arith, ◌∙◌, ap, sym}
 use Rattle.forced.proofs.ChoiceLaws.{fifth-ten, fifth-other, fifth-passed, fifth-all, found}
-use Rattle.forced.proofs.fifth_largest.Goals.{then-kind-eq2, else-kind-eq2}
+use Rattle.forced.proofs.fifth_largest.Goals.{then-kind-eq-TEN_YEAR, else-kind-eq-TEN_YEAR}
 use Rattle.forced.proofs.fifth_largest.Goals as goal
 
 pub loop-i-preserved-then-is_eligible : goal.loop-i-preserved-then-is_eligible
 loop-i-preserved-then-is_eligible c =
-    elim c.if-kind-eq2.branch [
-      | then-kind-eq2 w ↦
+    elim c.if-kind-eq-TEN_YEAR.branch [
+      | then-kind-eq-TEN_YEAR w ↦
           rw w.ten-is
-          (fifth-ten _ _ _ (omega arith) (omega arith) c.loop-i.invariant c.is_eligible.ensures c.if-is_eligible.true w.if-kind-eq2.true w.with_issue-ten.ensures c.with_issue-any.ensures)
-      | else-kind-eq2 w ↦
+          (fifth-ten _ _ _ (omega arith) (omega arith) c.loop-i.invariant c.is_eligible.ensures c.if-is_eligible.true w.if-kind-eq-TEN_YEAR.true w.with_issue-ten.ensures c.with_issue-any.ensures)
+      | else-kind-eq-TEN_YEAR w ↦
           rw w.ten-is
-          (fifth-other _ _ _ (omega arith) (omega arith) c.loop-i.invariant c.is_eligible.ensures c.if-is_eligible.true w.if-kind-eq2.false c.with_issue-any.ensures)
+          (fifth-other _ _ _ (omega arith) (omega arith) c.loop-i.invariant c.is_eligible.ensures c.if-is_eligible.true w.if-kind-eq-TEN_YEAR.false c.with_issue-any.ensures)
     ]
 
 pub loop-i-preserved : goal.loop-i-preserved
