@@ -9,11 +9,7 @@ ghost use Rattle.words.specs.Words.{words_between};
 use std::alloc::{AllocError, Global};
 
 // The words of a text, which blanks stand between.
-pub fn split<'a>(
-    alloc: Global,
-    text: &'a [u8],
-    blanks: &[u8],
-) -> Result<Vec<&'a [u8]>, AllocError>
+pub fn split<'a>(alloc: Global, text: &'a [u8], blanks: &[u8]) -> Result<Vec<&'a [u8]>, AllocError>
     ensures { IfOk result (λ words. map (λ word. word.now) words.items ≡ words_between blanks.now text.now) }
 {
     text.split(|byte| blanks.contains(byte))

@@ -12,8 +12,8 @@ pub returns : goal.returns
 returns c =
     let source = c.filter.ensures.source in
     map_from_collect _ c.collect.ensures.ran
-        (YieldsList-from_filter _ (λ (word : List ℕ). not (length word == 0))
-            (YieldsList-from_slice_split _ (λ (b : ℕ). list_any (λ (blank : ℕ). blank == b) c.args.blanks.now) c.args.text.now
-                (ap split_rest source ∙ c.split.ensures.rest) (ap split_done source ∙ c.split.ensures.done) (ap split_callee source ∙ c.split.ensures.closure)
-                (λ x b q k. search (rules, tests)))
-            c.filter.ensures.closure (λ x b q k. search (rules, tests)))
+    (YieldsList-from_filter _ (λ (word : List ℕ). not (length word == 0))
+    (YieldsList-from_slice_split _ (λ (b : ℕ). list_any (λ (blank : ℕ). blank == b) c.args.blanks.now) c.args.text.now
+    (ap split_rest source ∙ c.split.ensures.rest) (ap split_done source ∙ c.split.ensures.done) (ap split_callee source ∙ c.split.ensures.closure)
+    (λ x b q k. search (rules, tests)))
+    c.filter.ensures.closure (λ x b q k. search (rules, tests)))
