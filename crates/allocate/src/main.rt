@@ -3,92 +3,108 @@
 #![tactic(auto)]
 
 mod answers;
-mod calls;
-mod codes;
-mod entries;
+mod day;
+mod fields;
 mod given;
-mod lines;
+mod records;
 mod sample;
-mod words;
 
-use lines::Place;
+use answers::{Failure, Unread};
+use day::Day;
 use std::env::FillError;
 use std::fs::File;
-use std::io::Read;
+use std::io;
+use std::io::{BufRead, BufReader, Read, Write};
 use std::rt::Env;
 
 type Book = [u64; layout::LENGTH];
 
-type Given = [u64; given::LENGTH];
+// the bytes that a line has room for
+const ROOM: usize = 4096;
 
-// What can be read from the source, to its end or to a read that fails.
-fn read<S: Read>(
-    source: &mut S,
-    from: Place,
-    line: &mut [u8],
-    given: &mut Given,
-    book: &mut Book,
-) -> Place {
-    let mut place = from;
-    let mut text = [0u8; 4096];
-    // nothing says that a file ends: more turns than any file takes
-    for _ in 0..u64::MAX {
-        let n = source.read(&mut text).unwrap_or(0);
-        if n == 0 {
-            return place;
-        }
-        place = lines::take(&text[..n], place, line, given, book);
+// The next line of a source, without its end; what could be read of it, where a read fails. Says whether more may come.
+fn read_line<S: BufRead>(source: &mut S, line: &mut Vec<u8>) -> bool {
+    line.clear();
+    let read = source
+        .by_ref()
+        .take(ROOM as u64 + 1)
+        .read_until(b'\n', line);
+    if line.as_slice().last() == Some(&b'\n') {
+        line.pop();
+    } else if line.len() > ROOM {
+        let _ = source.skip_until(b'\n');
     }
-    place
+    matches!(read, Ok(1..))
 }
 
-// A day from a book of zeros: the text, and then what the source has.
-fn day<S: Read>(text: &[u8], source: &mut S) {
-    let mut line = [0u8; 4096];
-    let mut given = [0u64; given::LENGTH];
-    let mut book = [0u64; layout::LENGTH];
-    let first = Place { line: 1, bytes: 0 };
-    let place = lines::take(text, first, &mut line, &mut given, &mut book);
-    let last = read(source, place, &mut line, &mut given, &mut book);
-    lines::end(last, &line, &mut given, &mut book);
+// "A line that cannot be read .. is answered `error LINE: WORDS`"
+fn write_answer(rt: &HostRuntime, line: u64, answer: Result<(), Failure>) -> io::Result<()> {
+    match answer {
+        Ok(()) | Err(Failure::Unwritten) => Ok(()),
+        Err(Failure::Refused(refusal)) => {
+            println!(rt; "refused {}: {refusal}", u64::from(refusal))
+        }
+        Err(Failure::Unread(unread)) => println!(rt; "error {line}: {unread}"),
+    }
 }
 
-fn open(rt: &HostRuntime, path: &str) {
-    match File::open(rt, path) {
-        Ok(mut source) => day(b"", &mut source),
-        Err(error) => {
-            let _ = eprintln!(rt; "{path}: {error}");
+// A day from a book of zeros: the lines of a source, to its end or to a read that fails.
+fn run_day<S: BufRead + Drop>(rt: &HostRuntime, mut source: S) {
+    let mut day = Day::new(rt.alloc());
+    let mut line = Vec::new(rt.alloc());
+    // nothing says that a source ends: more turns than any takes
+    for number in 1..u64::MAX {
+        let more = read_line(&mut source, &mut line);
+        let answer = if line.len() > ROOM {
+            Err(Failure::Unread(Unread::NoRoom))
+        } else {
+            day.answer(rt, line.as_slice())
+        };
+        // what cannot be written is lost, and the next line is answered all the same
+        let _ = write_answer(rt, number, answer);
+        if !more {
+            return;
         }
     }
+}
+
+fn run_file(rt: &HostRuntime, path: &str) -> io::Result<()> {
+    let file = File::open(rt, path)?;
+    run_day(rt, BufReader::new(rt.alloc(), file)?);
+    Ok(())
 }
 
 // The file of a name, which is UTF-8 where it can be opened.
-fn file(rt: &HostRuntime, name: &[u8]) {
-    if words::same(name, b"-") {
-        day(b"", &mut rt.stdin());
-        return;
+fn run_named(rt: &HostRuntime, name: &[u8]) -> io::Result<()> {
+    if name == b"-".as_slice() {
+        run_day(rt, BufReader::new(rt.alloc(), rt.stdin())?);
+        return Ok(());
     }
     match str::from_utf8(name) {
-        Ok(path) => open(rt, path),
+        Ok(path) => match run_file(rt, path) {
+            Ok(()) => Ok(()),
+            Err(error) => eprintln!(rt; "{path}: {error}"),
+        },
         Err(_) => {
-            io::write_all(2, name);
-            io::write_all(2, b": a file's name has to be UTF-8\n");
+            rt.stderr().write_all(name)?;
+            eprintln!(rt; ": a file's name has to be UTF-8")
         }
     }
 }
 
 fn main(rt: HostRuntime) {
     let mut name = [0u8; 4096];
+    // place by place: `env::args` fails where a name is not UTF-8
     for i in 1..usize::MAX {
-        match rt.arg(i, &mut name) {
-            Ok(n) => file(&rt, &name[..n]),
-            Err(FillError::TooLong) => file(&rt, b""),
+        let _ = match rt.arg(i, &mut name) {
+            Ok(n) => run_named(&rt, &name[..n]),
+            Err(FillError::TooLong) => run_named(&rt, b""),
             Err(FillError::NotPresent) => {
                 if i == 1 {
-                    sample::day();
+                    run_day(&rt, sample::DAY.as_bytes());
                 }
                 return;
             }
-        }
+        };
     }
 }

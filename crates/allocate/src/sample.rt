@@ -1,7 +1,6 @@
 // A day to learn from: it reads like any day file.
-pub fn day() {
-    crate::day(
-        b"# three participants, 0 to 2, and two issues; a lot is 50,000 yen of face value
+pub const DAY: &str =
+    "# three participants, 0 to 2, and two issues; a lot is 50,000 yen of face value
 day 3 2
 # code, kind, price, coupon, days of interest, and two marks: redeemed, interest paid on the following day
 issue JP0000000018 2 10000 0 0 0 0     # a 10-year bond at 100 yen: a lot is worth 50,000 yen
@@ -30,7 +29,4 @@ close                                  # refused
 notice 2 JP0000000026=100
 run 1 2 0
 close
-",
-        &mut std::io::empty(),
-    );
-}
+";

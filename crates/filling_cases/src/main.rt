@@ -9,8 +9,6 @@
 // and those that start with # count for nothing. A line that is no case is written after `no case: `.
 #![tactic(auto)]
 
-mod words;
-
 ghost use Rattle.std.specs.Prelude.{◌≡◌, true, ℕ, ◌+◌, ◌*◌, ◌≤◌, ◌<◌, List, length, get_or, take};
 ghost use Rattle.rule.specs.Value.{Terms};
 ghost use Rattle.rule.specs.Filling.{worth as worth_of};
@@ -19,7 +17,13 @@ ghost use Rattle.filling_cases.specs.Ranges.{Issues, Fit};
 
 use filling::Filling;
 use rule::{Lots, Yen};
+use std::alloc::Global;
+use std::io;
+use std::io::Read;
 use value::Rate;
+
+// the bytes of standard input that there is room for, and one more
+const ROOM: u64 = 65_536;
 
 // The numbers of an issue's terms that a value is made of are in their ranges.
 fn fits(price: u64, coupon: u64, days: u64) -> bool
@@ -62,32 +66,15 @@ fn all_within(lots: &[u64; 32]) -> bool
     true
 }
 
-fn say(number: u64) {
-    io::write_all(1, b" ");
-    io::print_decimal(1, number);
-}
-
-fn say_lots(lots: [u64; 32], issues: usize)
-    requires { issues ≤ 32 }
-{
-    for i in 0..issues {
-        say(lots[i]);
-    }
-}
-
-// The name has its colon.
-fn show(name: &[u8], filled: Filling, lots: [u64; 32], issues: usize)
-    requires { issues ≤ 32 }
-{
+fn show(rt: &HostRuntime, name: &[u8], filled: Filling, lots: &[u64]) -> io::Result<()> {
     let covered = filled.covered;
     let forced_lots = filled.forced_lots;
-    io::write_all(1, name);
-    say(covered.0);
-    say(filled.forced);
-    say(forced_lots.0);
-    io::write_all(1, b" |");
-    say_lots(lots, issues);
-    io::write_all(1, b"\n");
+    rt.write_all(name)?;
+    print!(rt; ": {} {} {} |", covered.0, filled.forced, forced_lots.0)?;
+    for count in lots {
+        print!(rt; " {count}")?;
+    }
+    rt.write_all(b"\n")
 }
 
 // What all usable lots are worth.
@@ -105,6 +92,7 @@ fn worth(usable: &[u64; 32], rates: &[u64; 32], issues: usize) -> Yen
 // Says whether the numbers are in their ranges: only then is a match filled. The order of the issues is worked out from the
 // notified lots, as a run does.
 fn case(
+    rt: &HostRuntime,
     name: &[u8],
     runs: u64,
     preferential: bool,
@@ -160,102 +148,106 @@ fn case(
         Yen(amount),
         &mut lots,
     );
-    show(name, r, lots, issues);
+    // what cannot be written is lost, as it is for the lines that are no case
+    let _ = show(rt, name, r, &lots[..issues]);
     true
 }
 
-// The text after a name has the terms and the three rows of lots. Says whether they make a case.
-fn rows(name: &[u8], runs: u64, preferential: bool, basket: u64, amount: u64, text: &[u8]) -> bool {
-    let mut terms = [0u64; 192];
-    let n = words::numbers(text, 1, &mut terms, 192);
-    if n % 6 != 0 {
-        return false;
+// Numbers are decimal, up to 18 digits.
+fn number(word: &[u8]) -> Option<u64> {
+    words::number(word).filter(|number| *number < 1_000_000_000_000_000_000)
+}
+
+fn numbers(alloc: Global, part: &[u8]) -> Option<Vec<u64>> {
+    let mut numbers = Vec::new(alloc);
+    for word in words::split(alloc, part, b" ").ok()?.iter() {
+        numbers.push(number(word)?).ok()?;
     }
-    let issues = n / 6;
-    let mut notified = [0u64; 32];
-    if words::numbers(text, 2, &mut notified, issues) == 0 {
-        return false;
+    Some(numbers)
+}
+
+// Lots by issue, of one issue or more; zeros after them.
+fn lots(alloc: Global, part: &[u8], issues: usize) -> Option<[u64; 32]>
+    requires { issues ≤ 32 }
+{
+    let numbers = numbers(alloc, part)?;
+    if numbers.is_empty() || numbers.len() > issues {
+        return None;
     }
-    let mut usable = [0u64; 32];
-    if words::numbers(text, 3, &mut usable, issues) == 0 {
-        return false;
+    let mut lots = [0u64; 32];
+    lots[..numbers.len()].copy_from_slice(numbers.as_slice());
+    Some(lots)
+}
+
+fn preferential(sort: &[u8]) -> Option<bool> {
+    match sort {
+        [b'd', ..] => Some(false),
+        [b'p', ..] => Some(true),
+        _ => None,
     }
-    let mut used = [0u64; 32];
-    if words::numbers(text, 4, &mut used, issues) == 0 {
-        return false;
+}
+
+fn basket(word: &[u8]) -> Option<u64> {
+    match word {
+        [letter @ b'A'..=b'G', ..] => Some(u64::from(*letter - b'A')),
+        _ => None,
     }
-    case(
+}
+
+// Fills the match of a line; `None`, where the line is no case.
+fn read(rt: &HostRuntime, line: &[u8]) -> Option<()> {
+    let alloc = rt.alloc();
+    let (name, text) = words::split_once(line, b':')?;
+    let mut parts = text.split(|byte| *byte == b'|');
+    let head = words::split(alloc, parts.next()?, b" ").ok()?;
+    let [runs, sort, letter, amount] = head.as_slice() else {
+        return None;
+    };
+    let terms = numbers(alloc, parts.next()?)?;
+    if terms.is_empty() || terms.len() > 192 || terms.len() % 6 != 0 {
+        return None;
+    }
+    let issues = terms.len() / 6;
+    let notified = lots(alloc, parts.next()?, issues)?;
+    let usable = lots(alloc, parts.next()?, issues)?;
+    let used = lots(alloc, parts.next()?, issues)?;
+    if parts.next().is_some_and(|part| !part.is_empty()) {
+        return None;
+    }
+    let is_case = case(
+        rt,
         name,
-        runs,
-        preferential,
-        basket,
-        amount,
+        number(runs)?,
+        preferential(sort)?,
+        basket(letter)?,
+        number(amount)?,
         issues,
-        &terms,
+        terms.as_slice(),
         notified,
         usable,
         used,
-    )
+    );
+    is_case.then_some(())
 }
 
-// Says whether the line is a case, or counts for nothing.
-fn read(line: &[u8]) -> bool {
-    if line.len() == 0 {
-        return true;
+fn answer(rt: &HostRuntime, line: &[u8]) -> io::Result<()> {
+    if line.is_empty() || line.starts_with(b"#") || read(rt, line).is_some() {
+        return Ok(());
     }
-    if line[0] == b'#' {
-        return true;
-    }
-    let colon = words::find(line, 0, b':', false);
-    if colon >= line.len() {
-        return false;
-    }
-    let next = colon + 1;
-    let text = &line[next..];
-    let mut head = [0u64; 4];
-    if words::numbers(text, 0, &mut head, 4) != 4 {
-        return false;
-    }
-    if words::part(text, 5).len() > 0 {
-        return false;
-    }
-    rows(
-        &line[0..next],
-        head[0],
-        head[1] == 1,
-        head[2],
-        head[3],
-        text,
-    )
+    rt.write_all(b"no case: ")?;
+    rt.write_all(line)?;
+    rt.write_all(b"\n")
 }
 
-fn one(line: &[u8]) {
-    if read(line) {
+fn main(rt: HostRuntime) {
+    let mut text = Vec::new(rt.alloc());
+    // what comes before a read that fails is all
+    let _ = rt.stdin().take(ROOM).read_to_end(&mut text);
+    if text.len() as u64 >= ROOM {
+        let _ = println!(rt; "no case: more than 65,535 bytes");
         return;
     }
-    io::write_all(1, b"no case: ");
-    io::write_all(1, line);
-    io::write_all(1, b"\n");
-}
-
-fn each(text: &[u8]) {
-    let mut at = 0;
-    while at < text.len() {
-        let end = words::find(text, at, b'\n', false);
-        one(&text[at..end]);
-        if end >= text.len() {
-            return;
-        }
-        at = end + 1;
+    for line in text.as_slice().split(|byte| *byte == b'\n') {
+        let _ = answer(&rt, line);
     }
-}
-
-fn main() {
-    let mut text = io::large_buffer();
-    let n = io::read_full(0, &mut text);
-    if n >= text.len() {
-        io::write_all(1, b"no case: more than 65,535 bytes\n");
-        return;
-    }
-    each(&text[..n]);
 }

@@ -72,8 +72,5 @@ fill_match-r-requires c =
     matchable c.requires {key = key} (search rules) (search rules) c.rates_of.ensures (c.all_within-2.ensures c.if-not-all_within-2.false) c.issue_order-count.ensures c.worth-all.ensures
     c.if-amount-gt10000000000000.false
 
-pub show-requires : goal.show-requires
-show-requires c = c.requires.most
-
 pub returns : goal.returns
 returns c = tt

@@ -1,0 +1,86 @@
+// The records under an answer, a line each.
+ghost use Rattle.std.specs.Prelude.{◌<◌};
+
+use crate::Book;
+use crate::fields::{Basket, Codes};
+use layout::{BASKETS, MOST_PARTICIPANTS, POSITIONS};
+use std::io;
+
+// "match NUMBER BASKET DELIVERER RECEIVER MATCHED COVERED FORCED-CODE FORCED-LOTS (- 0 where nothing was forced)"
+pub fn matches(rt: &HostRuntime, codes: &Codes, cells: &[u64], count: usize) -> io::Result<()> {
+    let rows = cells.as_chunks::<7>().0;
+    for (n, row) in rows.iter().take(count).enumerate() {
+        let [basket, deliverer, receiver, matched, covered, forced, lots] = *row;
+        let basket = Basket(basket);
+        let code = if lots == 0 {
+            "-"
+        } else {
+            codes.text(forced as usize)
+        };
+        println!(rt;
+            "match {n} {basket} {deliverer} {receiver} {matched} {covered} {code} {lots}"
+        )?;
+    }
+    Ok(())
+}
+
+// "line MATCH CODE LOTS"
+pub fn lines(rt: &HostRuntime, codes: &Codes, cells: &[u64], count: usize) -> io::Result<()> {
+    let rows = cells.as_chunks::<3>().0;
+    for row in rows.iter().take(count) {
+        let [number, issue, lots] = *row;
+        println!(rt; "line {number} {} {lots}", codes.text(issue as usize))?;
+    }
+    Ok(())
+}
+
+// The lots that are not 0, by participant, then issue. Rows have a width, and the lots of a tally a sign.
+pub fn holdings(
+    rt: &HostRuntime,
+    kind: &str,
+    codes: &Codes,
+    cells: &[u64],
+    width: usize,
+) -> io::Result<()>
+    requires { 0 < width }
+{
+    for (participant, row) in cells.chunks(width).enumerate() {
+        for (issue, lots) in row.iter().enumerate() {
+            if *lots != 0 {
+                let code = codes.text(issue);
+                println!(rt; "{kind} {participant} {code} {}", lots.cast_signed())?;
+            }
+        }
+    }
+    Ok(())
+}
+
+// The marks that are not 0, by basket, deliverer, receiver. Squares have a width.
+pub fn pairs(rt: &HostRuntime, kind: &str, cells: &[u64], width: usize) -> io::Result<()>
+    requires { 0 < width }
+{
+    for (row, marks) in cells.chunks(width).enumerate() {
+        let basket = Basket((row / width) as u64);
+        let deliverer = row % width;
+        for (receiver, mark) in marks.iter().enumerate() {
+            if *mark != 0 {
+                println!(rt; "{kind} {basket} {deliverer} {receiver}")?;
+            }
+        }
+    }
+    Ok(())
+}
+
+// The positions that are not 0, with their sign, by participant, then basket; in the book they stand by basket.
+pub fn positions(rt: &HostRuntime, book: &Book) -> io::Result<()> {
+    for participant in 0..MOST_PARTICIPANTS {
+        for basket in 0..BASKETS {
+            let yen = book[POSITIONS + MOST_PARTICIPANTS * basket + participant];
+            if yen != 0 {
+                let basket = Basket(basket as u64);
+                println!(rt; "position {participant} {basket} {}", yen.cast_signed())?;
+            }
+        }
+    }
+    Ok(())
+}

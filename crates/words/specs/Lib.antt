@@ -1,0 +1,2 @@
+-- The definition that a contract cites.
+pub mod Words
