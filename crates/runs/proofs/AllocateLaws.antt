@@ -73,13 +73,6 @@ module _ (k : ℕ) (b₁ : List ℕ) (made : List Entry) (rates inside allocable
               subst (λ (x : Bool). Ordered (issues_in s.b₀) (key_in s.b₀ before e.deliverer x) (may_use inside allocable used e.deliverer) order) y.sort
               (subst (λ (x : ℕ). Ordered (issues_in s.b₀) (key_in s.b₀ before x y.before.preferential) (may_use inside allocable used x) order) y.deliverer o)
 
-    -- the code has the number of issues from the book as the basket began
-    pub issues-same : Asks → get_or b₁ 1 0 ≡ issues_in b
-    issues-same s = issues-kept s.b₀ s.begun.start.book _ b₁ s.begun.running.booked ∙ sym (issues-kept s.b₀ s.begun.start.book _ b (w.running s).booked)
-
-    pub issues-few : Asks → get_or b₁ 1 0 ≤ 32
-    issues-few s = omega (arith, issues-kept s.b₀ s.begun.start.book _ b₁ s.begun.running.booked, s.begun.start.book.sizes.most)
-
     module _ {usable : List ℕ} {all : ℕ} (U : UsableLots b e inside allocable used usable all) {orders' order' : List ℕ} (O : OrderFor b before e usable all orders' order') where
       pub fill-asked : (lots : List ℕ) → lots ≡ zeros (issues_in b) → Asks → Fillable b e rates usable all order' lots
       fill-asked lots v s =
@@ -111,6 +104,13 @@ module _ (k : ℕ) (b₁ : List ℕ) (made : List Entry) (rates inside allocable
   -- ---- the lengths of what is lent stay
 
   module _ {b orders used matches lines order : List ℕ} {last : Option Entry} {usable₀ : List ℕ} {m l j : ℕ} (w : Allocating b orders used matches lines order last usable₀ m l j) (s : Asks) where
+    -- the code has the number of issues from the book as the basket began
+    pub issues-same : get_or b₁ 1 0 ≡ issues_in b
+    issues-same = issues-kept s.b₀ s.begun.start.book _ b₁ s.begun.running.booked ∙ sym (issues-kept s.b₀ s.begun.start.book _ b (w.running s).booked)
+
+    pub issues-few : get_or b₁ 1 0 ≤ 32
+    issues-few = omega (arith, issues-kept s.b₀ s.begun.start.book _ b₁ s.begun.running.booked, s.begun.start.book.sizes.most)
+
     pub book-size : length b ≡ length b₁
     book-size = (w.running s).booked.size ∙ sym s.begun.running.booked.size
 

@@ -285,7 +285,7 @@ module _ (b draw m₀ l₀ : List ℕ) (h : Start b draw m₀ l₀) where
     rates-back part e r = record {
       each = λ i l.
           let inside : i < issues_in b = omega (arith, terms-length (issues_in b) (block b terms_at 192)) in
-          subst (Rated (get_or (book_terms b) i no_terms)) (sym (get_or_append_left part (drop (issues_in b) row) i 0 (omega (arith, e, lent, inside))))
+          subst (Rated (get_or (book_terms b) i no_terms)) (sym (get_or_append_left part (drop (issues_in b) row) 0 i (omega (arith, e, lent, inside))))
           ((subst (λ (n : ℕ). Rates (terms_in n (block b terms_at 192)) part) lent r).each i l);
     }
 

@@ -27,8 +27,8 @@ order_for-requires c =
 pub fill_next-f-requires : goal.fill_next-f-requires
 fill_next-f-requires c =
     fill-asked _ _ _ _ _ _ _ _ _ _ _ _ _ c.loop-m.invariant _ c.loop-m-test.true (item _ _ _ c.loop-m-test.true) c.usable_lots-all.ensures c.order_for.ensures _
-    (take-zeros _ 32 (issues-few _ _ _ _ _ _ _ _ _ _ _ _ _ c.loop-m.invariant _ c.loop-m-test.true (item _ _ _ c.loop-m-test.true) c.requires)
-    ∙ ap zeros (issues-same _ _ _ _ _ _ _ _ _ _ _ _ _ c.loop-m.invariant _ c.loop-m-test.true (item _ _ _ c.loop-m-test.true) c.requires)) c.requires
+    (take-zeros _ 32 (issues-few _ _ _ _ _ _ _ _ _ _ _ _ _ c.loop-m.invariant c.requires)
+    ∙ ap zeros (issues-same _ _ _ _ _ _ _ _ _ _ _ _ _ c.loop-m.invariant c.requires)) c.requires
 
 pub write_next-done-requires : goal.write_next-done-requires
 write_next-done-requires c =
