@@ -12,7 +12,7 @@ use Rattle.std.specs.Option.{MatchOption}
 use Rattle.std.specs.Prelude.{Option}
 use Rattle.std.specs.declared.ops.Range.{Range}
 use Rattle.std.proofs.iter.Yields.{nat_range_steps}
-use Rattle.std.proofs.lemmas.Iterator.{YieldsList, YieldsList-from_range, cases_from_all}
+use Rattle.std.proofs.lemmas.Iterator.{YieldsList, YieldsList-from_range, cases_from_all, cases_from_any}
 use denote.Param.Members.{Mut}
 use Rattle.std.proofs.lemmas.List.FromFn.{length-range_with_len, get_or-range_with_len}
 use Rattle.lists.specs.Tests.{all_below, holds}
@@ -124,6 +124,22 @@ module _ (t : ℕ → Bool) (n : ℕ) {F : Type 0} {g : Mut F (ℕ × Unit {0}) 
       all-items t (range_with_len 0 n) 0 u ran (YieldsList-from_range 0 n n e (omega arith)) passed failed
       ∙ ap (λ (m : ℕ). all_below m (λ i. t (get_or (range_with_len 0 n) i 0))) (length-range_with_len 0 n)
       ∙ all-ext _ _ n (λ i l. let z : 0 + i ≡ i = omega arith in ap t (get_or-range_with_len 0 n i 0 l ∙ z))
+
+  -- and of `any`
+  pub any-below : ((ys : List ℕ) × (o : Option ℕ) × (j : F) × YieldsThen nat_range_steps s ys o u × FoldsTo (λ p x q. Called g p (x, tt) false q) f ys j × MatchOption o (r ≡ false) (λ x. (r ≡ true) × ((h : F) × Called g j (x, tt) true h)))
+      → s ≡ record { start = 0; end = n }
+      → ((x : ℕ) (q : F) → Called g f (x, tt) true q → t x ≡ true) → ((x : ℕ) (q : F) → Called g f (x, tt) false q → (q ≡ f) × (t x ≡ false))
+      → MatchBool r ((k : ℕ) × (k < n) × (t k ≡ true)) ((k : ℕ) → k < n → t k ≡ false)
+  any-below ran e passed failed =
+      found r (cases_from_any u _ _ (λ x. t x ≡ true) (λ x. t x ≡ false) ran (YieldsList-from_range 0 n n e (omega arith)) passed failed)
+    where
+      at_place : (b : Bool) (k : ℕ) → k < n → t (get_or (range_with_len 0 n) k 0) ≡ b → t k ≡ b
+      at_place b k l h = let z : 0 + k ≡ k = omega arith in ap t (sym (get_or-range_with_len 0 n k 0 l ∙ z)) ∙ h
+
+      found : (r : Bool) → MatchBool r ((k : ℕ) × (k < length (range_with_len 0 n)) × HoldsAt (λ x. t x ≡ true) (range_with_len 0 n) k) (AllWithin (λ x. t x ≡ false) (range_with_len 0 n) 0 (length (range_with_len 0 n)))
+          → MatchBool r ((k : ℕ) × (k < n) × (t k ≡ true)) ((k : ℕ) → k < n → t k ≡ false)
+      found true (k, l, h) = let l' : k < n = omega (arith, length-range_with_len 0 n) in (k, l', at_place true k l' (h 0))
+      found false h = λ k l. at_place false k l (h k 0 (omega arith) (omega (arith, length-range_with_len 0 n)))
 
 -- ---- a loop that gathers bits, and has its answer at the end
 
