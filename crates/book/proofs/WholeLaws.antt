@@ -6,7 +6,7 @@ use Rattle.lists.specs.Tests.{pick, all_below, holds}
 use Rattle.lists.specs.Tables.{row, cell}
 use Rattle.lists.specs.Folds.{total, sum}
 use Rattle.lists.specs.Parts.{block, grid}
-use Rattle.lists.proofs.TestLaws.{pick-elim, and_no, and_left, and_right, all_of, all-at, all-ext}
+use Rattle.lists.proofs.TestLaws.{and_no, and_left, and_right, all_of, all-at, all-ext}
 use Rattle.lists.proofs.TableLaws.{get_or-table}
 use Rattle.lists.proofs.PartLaws.{grid-get}
 use Rattle.rule.specs.Day.{baskets, terms_of}
@@ -75,9 +75,6 @@ at-most-still false limit n m t = go (at_most 0 n m t) refl
     go : (r : Bool) → at_most 0 n m t ≡ r → at_most 0 n m t ≡ (at_most limit n m t && at_most 0 n m t)
     go true e = rw (e, at-most-less 0 limit n m t (omega arith) e)
     go false e = rw e (sym (and_no (at_most limit n m t)))
-
-pub while-small : (runs limit : ℕ) {x : ℕ} → x ≡ while_runs runs limit → x ≤ limit
-while-small runs limit e = rw e (pick-elim (λ (y : ℕ). y ≤ limit) (ltb runs 3) limit 0 (omega arith) (omega arith))
 
 -- ---- signed cells
 

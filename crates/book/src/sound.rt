@@ -103,6 +103,8 @@ impl<'a> Book<'a> {
         )
     }
 
+    // Inlined, since the compiler then knows how few participants there are.
+    #[inline(always)]
     fn marks_fit(&self, at: usize) -> bool
         requires { at + 1008 ≤ book_length }
         ensures { result ≡ marks_fit self.now.participants (cube self.now.cells.now at self.now.participants) }

@@ -1,5 +1,5 @@
--- Laws of tests, and of a loop that goes through rows a stride apart: of no book, they could stand in crates/lists. Assumes nothing.
-use Rattle.std.proofs.Common.{◌≡◌, ℕ, zero, suc, ◌+◌, ◌-◌, ◌*◌, ◌%◌, ◌^◌, ◌<◌, ◌≤◌, Bool, true, false, ◌&&◌, eqb, leb, List, [], ◌∷◌, length, get_or, sym, refl, ap, ◌∙◌, ap₂, add-zero, add-one, arith, pow_pos, ne_eqb, le-leb}
+-- Laws of tests, of `all` and `any`, and of a loop that gathers bits: of no book, they could stand in crates/lists. Assumes nothing.
+use Rattle.std.proofs.Common.{◌≡◌, ℕ, zero, suc, ◌+◌, ◌-◌, ◌%◌, ◌^◌, ◌<◌, ◌≤◌, Bool, true, false, ◌&&◌, eqb, leb, List, length, get_or, sym, refl, ap, ◌∙◌, ap₂, add-zero, add-one, arith, pow_pos, ne_eqb, le-leb}
 use mathlib.Core.Bool.{and-true, and_assoc}
 use native.Mathlib.Decide.{dec_le}
 use lib.Bits.{bit_or, or_lt, or_add_and, and_le_l, and_le_r}
@@ -15,8 +15,8 @@ use Rattle.std.proofs.iter.Yields.{nat_range_steps}
 use Rattle.std.proofs.lemmas.Iterator.{YieldsList, YieldsList-from_range, cases_from_all, cases_from_any}
 use denote.Param.Members.{Mut}
 use Rattle.std.proofs.lemmas.List.FromFn.{length-range_with_len, get_or-range_with_len}
-use Rattle.lists.specs.Tests.{all_below, holds}
-use Rattle.lists.proofs.TestLaws.{go, stop, and_no, all_none, all_more, all-stop, all-through, all_of, all-ext}
+use Rattle.lists.specs.Tests.{all_below}
+use Rattle.lists.proofs.TestLaws.{all_none, all-stop, all_of, all-ext}
 
 and-swap : (a b c d : Bool) → ((a && b) && (c && d)) ≡ ((a && c) && (b && d))
 and-swap true true c d = refl
@@ -56,49 +56,6 @@ all-overlap t a o n h l =
   where
     s : ℕ → Bool
     s k = t (o + k)
-
--- ---- a list of tests with a return for each
-
--- one of them failed
-pub holds-stop : (ts : List Bool) (i : ℕ) → get_or ts i true ≡ false → false ≡ holds ts
-unfolding holds
-holds-stop [] i e = sym e
-holds-stop (t ∷ ts) zero e = sym (stop t (holds ts) e)
-holds-stop (t ∷ ts) (suc i) e = sym (ap (λ (r : Bool). t && r) (sym (holds-stop ts i e)) ∙ and_no t)
-
--- each passed, and the last is the answer
-pub holds-go : {t r : Bool} (ts : List Bool) → t ≡ true → r ≡ holds ts → r ≡ holds (t ∷ ts)
-unfolding holds
-holds-go ts e h = sym (go _ _ e (sym h))
-
-pub holds-end : {t r : Bool} → r ≡ t → r ≡ holds (t ∷ [])
-unfolding holds
-holds-end {t} h = h ∙ sym (and-true t)
-
--- ---- a loop that goes through rows a stride apart
-
--- it is at row p, which begins at o, and the rows before passed the test
-pub record Passed (test : ℕ → ℕ → Bool) (at stride n o p : ℕ) : Type 0 where
-  pub here : p ≤ n
-  pub begin : o ≡ at + stride * p
-  pub before : all_below p (λ q. test q (at + stride * q)) ≡ true
-
-pub passed_none : (test : ℕ → ℕ → Bool) (at stride n : ℕ) → Passed test at stride n at 0
-passed_none test at stride n = record { here = omega arith; begin = omega arith; before = all_none _ }
-
-module _ {test : ℕ → ℕ → Bool} {at stride n o p : ℕ} (h : Passed test at stride n o p) where
-  at_row : {r : Bool} → test p o ≡ r → test p (at + stride * p) ≡ r
-  at_row e = ap (test p) (sym h.begin) ∙ e
-
-  pub passed-more : p < n → test p o ≡ true → Passed test at stride n (o + stride) (p + 1)
-  passed-more l e =
-      record { here = omega arith; begin = omega (arith, h.begin); before = all_more (λ q. test q (at + stride * q)) p h.before (at_row e) }
-
-  pub passed-stop : p < n → test p o ≡ false → all_below n (λ q. test q (at + stride * q)) ≡ false
-  passed-stop l e = all-stop (λ q. test q (at + stride * q)) n p l (at_row e)
-
-  pub passed-all : n ≤ p → all_below n (λ q. test q (at + stride * q)) ≡ true
-  passed-all l = all-through (λ q. test q (at + stride * q)) n p h.here l h.before
 
 -- ---- what `all` returns, of a list and of the numbers below n
 
