@@ -1,28 +1,33 @@
--- The marks as numbers in place of the terms. Assumes nothing.
+-- What may be used, by the runs done, and the smaller of two quantities. Assumes nothing.
 use mathlib.Core.Path.{◌≡◌, refl}
-use mathlib.Core.Bool.{Bool}
-use Prim.Native.Nat.{ℕ, zero, suc, min}
+use Prim.Native.Nat.{ℕ, zero, suc, min, ◌<◌}
+use native.Mathlib.Decide.{dec_lt}
+use native.Mathlib.Omega.{arith}
 use lib.Dec.{eqb}
-use borrow.Author.Tests.{eq-eqb, ne_eqb}
+use Rattle.std.specs.Ordering.{ord_min}
+use Rattle.std.proofs.lemmas.Bool.Decides.{nat_tests}
 use Rattle.lists.specs.Tests.{pick}
+use Rattle.rule.specs.declared.Lots.{Lots}
+use Rattle.rule.specs.contracts.LotsOrd.TheImpl.{cmp-value}
 use Rattle.rule.specs.Value.{Terms}
 use Rattle.rule.specs.Allocable.{unmarked, allocable}
 
-module _ (t : Terms) {redeemed interest : ℕ} (r : t.redeemed ≡ redeemed) (i : t.interest ≡ interest) where
-  pub not-redeemed : redeemed ≡ 0 → eqb interest 0 ≡ unmarked t
-  unfolding unmarked
-  not-redeemed h = rw (r, eq-eqb redeemed 0 h, i)
+module _ (t : Terms) (runs notified scheduled : ℕ) where
+  pub first_run : runs ≡ 0 → allocable runs t notified scheduled ≡ pick (eqb t.redeemed 0) (min notified scheduled) 0
+  unfolding allocable
+  first_run w = rw w
 
-  pub is-redeemed : (redeemed ≡ 0 → ⊥) → eqb redeemed 0 ≡ unmarked t
-  unfolding unmarked
-  is-redeemed h = rw (r, ne_eqb redeemed 0 h)
+pub later_run : (t : Terms) (runs notified scheduled : ℕ) → (runs ≡ 0 → ⊥) → allocable runs t notified scheduled ≡ pick (unmarked t) notified 0
+unfolding allocable
+later_run t zero notified scheduled w = absurd (w refl)
+later_run t (suc runs) notified scheduled w = refl
 
-  module _ (notified scheduled : ℕ) {lots : ℕ} where
-    pub first_run : {runs both : ℕ} → runs ≡ 0 → both ≡ min notified scheduled → lots ≡ pick (eqb redeemed 0) both 0 → lots ≡ allocable runs t notified scheduled
-    unfolding allocable
-    first_run w e h = rw (w, r, ← e) h
+-- `Lots` are ordered as their numbers
+pub smaller : (a b : Lots) → (ord_min cmp-value.it a b).0 ≡ min a.0 b.0
+smaller a b = go (dec_lt b.0 a.0)
+  where
+    go : Dec (b.0 < a.0) → (ord_min cmp-value.it a b).0 ≡ min a.0 b.0
+    go (yes h) = grind (arith, nat_tests)
+    go (no h) = grind (arith, nat_tests)
 
-    pub later-run : {runs : ℕ} {usable : Bool} → (runs ≡ 0 → ⊥) → usable ≡ unmarked t → lots ≡ pick usable notified 0 → lots ≡ allocable runs t notified scheduled
-    unfolding allocable
-    later-run {runs = zero} w e h = absurd (w refl)
-    later-run {runs = suc n} w e h = rw (← e) h
+pub ruleset by_window = (first_run, later_run, smaller)

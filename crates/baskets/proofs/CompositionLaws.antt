@@ -1,7 +1,7 @@
 -- The code's table says what the composition says, at each entry, and beyond its seven baskets and seven kinds nothing is within.
 -- Assumes nothing.
 use mathlib.Core.Path.{◌≡◌, refl, sym, ◌∙◌, ap}
-use mathlib.Core.Bool.{true, false, beq}
+use mathlib.Core.Bool.{true, beq}
 use mathlib.Core.List.{List, [], map}
 use Prim.Native.Nat.{ℕ, ◌≤◌, ◌<◌}
 use lib.Dec.{eqb, leb}
@@ -55,11 +55,3 @@ module _ (k : ℕ) where
     pub kinds-are : (none : List ℕ) → KindsOf k (get_or composed k none)
     unfolding composed
     kinds-are none = rw (get_or-table 7 kinds k none l) (record { seven = refl; taken = λ t. entry-within t (dec_lt t.kind 7) })
-
--- a kind among those of a basket, by the code's own tests
-module _ (t : Terms) {k x : ℕ} {row : List ℕ} (h : KindsOf k row) (kind : t.kind ≡ x) where
-  pub among : eqb (get_or row x 0) 1 ≡ within k t
-  among = ap (λ (x : ℕ). eqb (get_or row x 0) 1) (sym kind) ∙ h.taken t
-
-  pub no_kind : 7 ≤ x → false ≡ within k t
-  no_kind l = sym (ap (λ (y : ℕ). eqb y 1) (get_or-eq_default row 0 (omega (arith, h.seven)))) ∙ among

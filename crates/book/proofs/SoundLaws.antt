@@ -1,16 +1,18 @@
 -- Soundness as tests on cells: signed cells, baskets, and the whole. Assumes nothing.
-use Rattle.std.proofs.Common.{◌≡◌, ℕ, zero, suc, ◌+◌, ◌-◌, ◌*◌, ◌%◌, ◌<◌, ◌≤◌, Bool, true, false, not, ◌&&◌, leb, List, [], ◌∷◌, length, get_or, take, drop, sym, refl, ap, ◌∙◌, le_refl, add-one, arith, length-drop, get_or-drop, take_all, take-suc, drop-drop, le-ltb, lt-ltb, eq-eqb, ne_eqb, le-leb, leb-true}
+use Rattle.std.proofs.Common.{◌≡◌, ℕ, zero, suc, ◌+◌, ◌-◌, ◌*◌, ◌%◌, ◌<◌, ◌≤◌, Bool, true, false, not, ◌&&◌, ◌||◌, eqb, leb, List, [], ◌∷◌, length, get_or, take, drop, sym, refl, ap, ◌∙◌, le_refl, add-one, arith, length-drop, take_all, take-suc, drop-drop, le-ltb, lt-ltb, le-leb, leb-true}
 use native.Mathlib.Decide.{dec_le, dec_lt}
+use mathlib.Core.Bool.{and_assoc}
 use lib.ListN.{length-map, get_or-map}
 use borrow.Author.Tests.{lt-leb, not-true}
+use Rattle.std.specs.Bool.{MatchBool}
 use Rattle.lists.specs.Tests.{all_below}
 use Rattle.lists.specs.Tables.{from}
 use Rattle.lists.specs.Folds.{total, keep}
 use Rattle.lists.specs.Parts.{block, grid}
-use Rattle.lists.proofs.TestLaws.{both_ways, pick-cases, all_none, all_more, all-stop, all-through, all-at, and_left, and_right}
+use Rattle.lists.proofs.TestLaws.{both_ways, pick-cases, all_none, all_more, all_of, all-stop, all-through, all-at, and_left, and_right, row-stop}
 use Rattle.lists.proofs.FoldLaws.{total-append}
 use Rattle.lists.proofs.TableLaws.{length-table, get_or-table}
-use Rattle.lists.proofs.PartLaws.{block-get, table-agree}
+use Rattle.lists.proofs.PartLaws.{part-is, block-get, table-agree}
 use Rattle.rule.specs.Value.{Terms, no_terms}
 use Rattle.rule.specs.Baskets.{within}
 use Rattle.rule.specs.Allocable.{unmarked}
@@ -18,7 +20,8 @@ use Rattle.rule.specs.Filling.{eligible}
 use Rattle.rule.specs.Day.{terms_of}
 use Rattle.rule.specs.Sound.{position_limit, tradable}
 use Rattle.rule.specs.Layout.{terms_at, plus, minus}
-use Rattle.ranges.specs.Ranges.{row_passes}
+use Rattle.ranges.specs.Ranges.{all_pass, row_passes}
+use Rattle.ranges.proofs.RangeLaws.{part-passes}
 use Rattle.book.specs.Sized.{book_terms, eligible_at, is_within, basket_fits}
 
 -- ---- a signed cell
@@ -44,7 +47,7 @@ within-is {r} cell limit f l e = go (dec_lt cell 9223372036854775808)
 
 -- ---- an unmarked issue
 
-pub is-not : {t : Bool} → t ≡ false → not t ≡ true
+is-not : {t : Bool} → t ≡ false → not t ≡ true
 is-not e = rw e
 
 module _ (f : ℕ → Bool) where
@@ -77,16 +80,20 @@ module _ (b : List ℕ) (k : ℕ) where
   unfolding eligible_at
   there-is i l = ap (λ (t : Terms). within k t && unmarked t) (terms-there i l)
 
-  pub tradable-some : {o i : ℕ} → o ≡ terms_at + 6 * i → i < get_or b 1 0 → eligible_at b k o ≡ true → true ≡ tradable k (book_terms b)
+  tradable-some : {o i : ℕ} → o ≡ terms_at + 6 * i → i < get_or b 1 0 → eligible_at b k o ≡ true → true ≡ tradable k (book_terms b)
   unfolding tradable eligible
   tradable-some {o} {i} d l e =
       sym (lt-ltb 0 _ (kept-some there 0 (length (book_terms b)) i (omega arith) (omega (arith, terms-count)) (there-is i l ∙ ap (eligible_at b k) (sym d) ∙ e)))
 
-  pub tradable-none : all_below (get_or b 1 0) (λ i. not (eligible_at b k (terms_at + 6 * i))) ≡ true → false ≡ tradable k (book_terms b)
+  tradable-none : all_below (get_or b 1 0) (λ i. not (eligible_at b k (terms_at + 6 * i))) ≡ true → false ≡ tradable k (book_terms b)
   unfolding tradable eligible
   tradable-none h =
       rw (kept-none there 0 (length (book_terms b)) (λ i l. let l' : i < get_or b 1 0 = omega (arith, terms-count) in
       there-is i l' ∙ not-true _ (all-at (λ i. not (eligible_at b k (terms_at + 6 * i))) (get_or b 1 0) h i l')))
+
+  pub tradable-said : (r : Bool) → MatchBool r ((i : ℕ) × (i < get_or b 1 0) × (eligible_at b k (terms_at + 6 * i) ≡ true)) ((i : ℕ) → i < get_or b 1 0 → eligible_at b k (terms_at + 6 * i) ≡ false) → r ≡ tradable k (book_terms b)
+  tradable-said true (i, l, e) = tradable-some refl l e
+  tradable-said false h = tradable-none (all_of (λ i. not (eligible_at b k (terms_at + 6 * i))) (get_or b 1 0) (λ i l. is-not (h i l)))
 
 first : (b : List ℕ) (o : ℕ) → get_or (block b o 6) 0 0 ≡ get_or b o 0
 first b o = block-get b o 6 0 (omega arith) ∙ ap (λ (j : ℕ). get_or b j 0) (omega arith)
@@ -100,22 +107,20 @@ eligible-is b k o h = h (terms_of (block b o 6)) (first b o) (block-get b o 6 4 
 -- ---- a basket's positions
 
 -- one cell more
-total-more : (f : ℕ → ℕ) (b : List ℕ) (at p : ℕ) → at + p < length b → total f (block b at (p + 1)) ≡ total f (block b at p) + f (get_or b (at + p) 0)
-total-more f b at p l =
-    rw (add-one p, take-suc (drop at b) p 0 (rw length-drop (omega arith)), total-append f (take p (drop at b)) (get_or (drop at b) p 0 ∷ []), get_or-drop at b p 0)
-    (omega arith)
+total-more : (f : ℕ → ℕ) (xs : List ℕ) (p : ℕ) → p < length xs → total f (take (p + 1) xs) ≡ total f (take p xs) + f (get_or xs p 0)
+total-more f xs p l = rw (add-one p, take-suc xs p 0 l, total-append f (take p xs) (get_or xs p 0 ∷ [])) (omega arith)
 
 -- the loop over a basket's positions: those below p are within the limit, and these are their sums
-pub record Summed (b : List ℕ) (limit at n owed due p : ℕ) : Type 0 where
-  pub here : p ≤ n
-  pub before : row_passes (is_within limit) b at p ≡ true
-  pub owed_sum : owed ≡ total plus (block b at p)
-  pub due_sum : due ≡ total minus (block b at p)
+pub record Summed (limit : ℕ) (xs : List ℕ) (owed due p : ℕ) : Type 0 where
+  pub here : p ≤ length xs
+  pub before : all_below p (λ i. is_within limit (get_or xs i 0)) ≡ true
+  pub owed_sum : owed ≡ total plus (take p xs)
+  pub due_sum : due ≡ total minus (take p xs)
   pub owed_small : owed ≤ position_limit * p
   pub due_small : due ≤ position_limit * p
 
-pub summed-none : (b : List ℕ) (limit at n : ℕ) → Summed b limit at n 0 0 0
-summed-none b limit at n =
+pub summed-none : (limit : ℕ) (xs : List ℕ) → Summed limit xs 0 0 0
+summed-none limit xs =
     record {
       here = omega arith;
       before = all_none _;
@@ -129,50 +134,54 @@ sides-small : {x y : ℕ} (limit cell : ℕ) → is_within limit cell ≡ true �
 sides-small limit cell h e f =
     (rw e (leb-true (plus cell) limit (and_left _ (leb (minus cell) limit) h)), rw f (leb-true (minus cell) limit (and_right (leb (plus cell) limit) _ h)))
 
-module _ {b : List ℕ} {limit at n owed due p : ℕ} (h : Summed b limit at n owed due p) where
-  module _ {x y : ℕ} (small : limit ≤ position_limit) (w : is_within limit (get_or b (at + p) 0) ≡ true) (e : x ≡ plus (get_or b (at + p) 0)) (f : y ≡ minus (get_or b (at + p) 0)) where
+module _ {limit : ℕ} {xs : List ℕ} {owed due p : ℕ} (h : Summed limit xs owed due p) where
+  module _ {x y : ℕ} (small : limit ≤ position_limit) (w : is_within limit (get_or xs p 0) ≡ true) (e : x ≡ plus (get_or xs p 0)) (f : y ≡ minus (get_or xs p 0)) where
     pub owed-fits : owed + x ≤ position_limit * (p + 1)
-    owed-fits = omega (arith, h.owed_small, sides-small limit (get_or b (at + p) 0) w e f)
+    owed-fits = omega (arith, h.owed_small, sides-small limit (get_or xs p 0) w e f)
 
     pub due-fits : due + y ≤ position_limit * (p + 1)
-    due-fits = omega (arith, h.due_small, sides-small limit (get_or b (at + p) 0) w e f)
+    due-fits = omega (arith, h.due_small, sides-small limit (get_or xs p 0) w e f)
 
-    pub summed-more : p < n → at + p < length b → Summed b limit at n (owed + x) (due + y) (p + 1)
-    summed-more k l =
+    pub summed-more : p < length xs → Summed limit xs (owed + x) (due + y) (p + 1)
+    summed-more l =
         record {
           here = omega arith;
-          before = all_more (λ i. is_within limit (get_or b (at + i) 0)) p h.before w;
-          owed_sum = rw (total-more plus b at p l, h.owed_sum, e);
-          due_sum = rw (total-more minus b at p l, h.due_sum, f);
+          before = all_more (λ i. is_within limit (get_or xs i 0)) p h.before w;
+          owed_sum = rw (total-more plus xs p l, h.owed_sum, e);
+          due_sum = rw (total-more minus xs p l, h.due_sum, f);
           owed_small = owed-fits;
           due_small = due-fits;
         }
 
-  module _ (k : ℕ) where
-    pub basket-stop : p < n → is_within limit (get_or b (at + p) 0) ≡ false → false ≡ basket_fits b limit n k at
-    unfolding basket_fits
-    basket-stop l w = rw (all-stop (λ i. is_within limit (get_or b (at + i) 0)) n p l w)
+  summed-all : (f : ℕ → ℕ) → length xs ≤ p → total f (take p xs) ≡ total f xs
+  summed-all f l = ap (total f) (take_all p xs l)
 
-    module _ (l : n ≤ p) where
-      all_in : row_passes (is_within limit) b at n ≡ true
-      all_in = all-through (λ i. is_within limit (get_or b (at + i) 0)) n p h.here l h.before
+  summed-within : length xs ≤ p → all_pass (is_within limit) xs ≡ true
+  summed-within l = all-through (λ i. is_within limit (get_or xs i 0)) (length xs) p h.here l h.before
 
-      sums : (owed ≡ total plus (block b at n)) × (due ≡ total minus (block b at n))
-      sums =
-          let e : p ≡ n = omega (arith, h.here) in
-          (h.owed_sum ∙ ap (λ (m : ℕ). total plus (block b at m)) e, h.due_sum ∙ ap (λ (m : ℕ). total minus (block b at m)) e)
+  summed-owed : length xs ≤ p → total plus xs ≡ owed
+  summed-owed l = sym (h.owed_sum ∙ summed-all plus l)
 
-      pub basket-unequal : (owed ≡ due → ⊥) → false ≡ basket_fits b limit n k at
-      unfolding basket_fits
-      basket-unequal d = rw (all_in, ← sums.0, ← sums.1, ne_eqb owed due d)
+  summed-due : length xs ≤ p → total minus xs ≡ due
+  summed-due l = sym (h.due_sum ∙ summed-all minus l)
 
-      pub basket-empty : owed ≡ due → owed ≡ 0 → true ≡ basket_fits b limit n k at
-      unfolding basket_fits
-      basket-empty d z = rw (all_in, ← sums.0, ← sums.1, eq-eqb owed due d, eq-eqb (owed + due) 0 (omega arith))
+-- the positions as a slice of their own
+module _ (b : List ℕ) (limit n k at : ℕ) (room : at + n ≤ length b) where
+  abbrev part : List ℕ
+  part = take (at + n - at) (drop at b)
 
-      pub basket-open : {r : Bool} → owed ≡ due → (owed ≡ 0 → ⊥) → r ≡ tradable k (book_terms b) → r ≡ basket_fits b limit n k at
-      unfolding basket_fits
-      basket-open d z t = rw (all_in, ← sums.0, ← sums.1, eq-eqb owed due d, ne_eqb (owed + due) 0 (λ s. z (omega arith))) t
+  basket_is : (m : ℕ) → m ≡ n
+      → basket_fits b limit m k at ≡ (all_pass (is_within limit) part && (eqb (total plus part) (total minus part) && (eqb (total plus part + total minus part) 0 || tradable k (book_terms b))))
+  unfolding basket_fits
+  basket_is m e = rw (e, part-passes (is_within limit) b at (at + n - at) n (omega arith) room, part-is b at n)
+      (and_assoc (row_passes (is_within limit) b at n) (eqb (total plus (block b at n)) (total minus (block b at n))) (eqb (total plus (block b at n) + total minus (block b at n)) 0 || tradable k (book_terms b)))
+
+  pub basket-sums : {owed due p : ℕ} → Summed limit part owed due p → length part ≤ p → (m : ℕ) → m ≡ n
+      → basket_fits b limit m k at ≡ (eqb owed due && (eqb (owed + due) 0 || tradable k (book_terms b)))
+  basket-sums h l m e = basket_is m e ∙ rw (summed-within h l, summed-owed h l, summed-due h l)
+
+  pub basket-stop : (m : ℕ) → m ≡ n → (i : ℕ) → i < length part → is_within limit (get_or part i 0) ≡ false → false ≡ basket_fits b limit m k at
+  basket-stop m e i l w = row-stop _ _ (all-stop (λ i. is_within limit (get_or part i 0)) (length part) i l w) ∙ sym (basket_is m e)
 
 -- ---- the codes
 

@@ -6,14 +6,14 @@ use Rattle.lists.specs.Tests.{pick, all_below, holds}
 use Rattle.lists.specs.Tables.{row, cell}
 use Rattle.lists.specs.Folds.{total, sum}
 use Rattle.lists.specs.Parts.{block, grid}
-use Rattle.lists.proofs.TestLaws.{pick-elim, and_no, and_left, and_right, all_of, all-at, all-ext}
+use Rattle.lists.proofs.TestLaws.{and_no, and_left, and_right, all_of, all-at, all-ext}
 use Rattle.lists.proofs.TableLaws.{get_or-table}
 use Rattle.lists.proofs.PartLaws.{grid-get}
-use Rattle.rule.specs.Day.{baskets}
-use Rattle.rule.specs.Sound.{sound, sizes_fit, at_most, marks_fit, tradable, position_limit, notice_limit, tally_limit, trade_limit}
-use Rattle.rule.specs.Layout.{book_length, positions_at, notices_at, today_at, tally_at, plus, minus, cube, view, book_fits, sound_book}
+use Rattle.rule.specs.Day.{baskets, terms_of}
+use Rattle.rule.specs.Sound.{sound, sizes_fit, all_terms_fit, receipts_fit, at_most, marks_fit, tradable, position_limit, notice_limit, tally_limit, trade_limit}
+use Rattle.rule.specs.Layout.{book_length, terms_at, receipts_at, pairs_at, positions_at, notices_at, today_at, tally_at, plus, minus, cube, view, book_fits, sound_book}
 use Rattle.ranges.specs.Ranges.{row_passes}
-use Rattle.book.specs.Sized.{Sized, book_terms, is_within, while_runs, basket_fits, positions_fit, given_fits, state_within, state_fits}
+use Rattle.book.specs.Sized.{Sized, book_terms, is_within, while_runs, basket_fits, positions_fit, tally_fits, codes_fit, given_fits, state_within, state_fits}
 use Rattle.ranges.proofs.ScanLaws.{all-and}
 
 -- ---- tests in another order
@@ -75,9 +75,6 @@ at-most-still false limit n m t = go (at_most 0 n m t) refl
     go : (r : Bool) → at_most 0 n m t ≡ r → at_most 0 n m t ≡ (at_most limit n m t && at_most 0 n m t)
     go true e = rw (e, at-most-less 0 limit n m t (omega arith) e)
     go false e = rw e (sym (and_no (at_most limit n m t)))
-
-pub while-small : (runs limit : ℕ) {x : ℕ} → x ≡ while_runs runs limit → x ≤ limit
-while-small runs limit e = rw e (pick-elim (λ (y : ℕ). y ≤ limit) (ltb runs 3) limit 0 (omega arith) (omega arith))
 
 -- ---- signed cells
 
@@ -178,17 +175,27 @@ module _ (b : List ℕ) where
       ap (λ (u : Bool). state_of u standing tallied) (sym (at-most-still (ltb runs 3) notice_limit n m notices))
       ∙ ap₂ (state_of (at_most (while_runs runs notice_limit) n m notices)) standing-is (sides-are b tally_at 32 n m (tally_limit * runs))
 
-  -- with the limits that the code works out
-  pub state-is : {x y : ℕ} → x ≡ while_runs runs notice_limit → y ≡ while_runs runs position_limit → state_within b x y ≡ state_fits b
-  unfolding state_fits
-  state-is e f = rw (e, f)
-
-  pub sound-is : sound_book b ≡ (book_fits b && holds (sizes_fit n m ∷ given_fits b ∷ state_fits b ∷ []))
+  sound-is : sound_book b ≡ (book_fits b && holds (sizes_fit n m ∷ given_fits b ∷ state_fits b ∷ []))
   unfolding sound_book sound view given_fits
   sound-is =
       ap (λ (t : Bool). book_fits b && t)
       (arranged _ _ _ _ _ _ _ _ _ _ _ _ _ _ _ (ltb runs 3) (at_most 0 baskets n owed) (at_most 0 baskets n due) (at_most 0 n m notices)
       ∙ ap (λ (t : Bool). holds (sizes_fit n m ∷ given_fits b ∷ t ∷ [])) state-there)
+
+-- the tests of a book whose day has n participants and m issues
+module _ (b : List ℕ) (n m : ℕ) (e : n ≡ get_or b 0 0) (f : m ≡ get_or b 1 0) where
+  pub given_is : given_fits b ≡ (codes_fit b && (all_terms_fit m (map terms_of (grid b terms_at 6 m 6)) && (at_most 1000000000000 n m (grid b receipts_at 32 n m) && marks_fit n (cube b pairs_at n))))
+  unfolding given_fits receipts_fit holds
+  given_is = rw (e, f) (simp and-true)
+
+  pub state_is : (runs lots yen : ℕ) → runs ≡ get_or b 2 0 → lots ≡ while_runs runs notice_limit → yen ≡ while_runs runs position_limit
+      → state_fits b ≡ (leb runs 3 && (leb (get_or b 3 0) trade_limit && (at_most lots n m (grid b notices_at 32 n m) && (positions_fit b yen && (tally_fits b (tally_limit * runs) && marks_fit n (cube b today_at n))))))
+  unfolding state_fits state_within holds
+  state_is runs lots yen r l y = rw (e, f, l, y, r) (simp and-true)
+
+pub sound_is : (b : List ℕ) → sound_book b ≡ (eqb (length b) book_length && (sizes_fit (get_or b 0 0) (get_or b 1 0) && (given_fits b && state_fits b)))
+unfolding book_fits holds
+sound_is b = sound-is b ∙ simp and-true
 
 -- a book of its length whose sizes fit
 pub sized : (b : List ℕ) → length b ≡ book_length → sizes_fit (get_or b 0 0) (get_or b 1 0) ≡ true → Sized b

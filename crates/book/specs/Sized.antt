@@ -18,11 +18,6 @@ pub record Sized (b : List ℕ) : Type 0 where
   pub participants : slice_index_or b 0 0 ≤ 12
   pub issues : slice_index_or b 1 0 ≤ 32
 
--- and no limit on its signed cells is above that of positions
-pub record Limited (b : List ℕ) (limit : ℕ) : Type 0 where
-  pub sized : Sized b
-  pub small : limit ≤ position_limit
-
 abbrev pub book_terms : List ℕ → List Terms
 book_terms b = map terms_of (grid b terms_at 6 (slice_index b 1) 6)
 

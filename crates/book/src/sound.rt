@@ -1,9 +1,10 @@
 // When a book is sound, for a slice of any length and content. No place beyond the day's sizes is read.
-ghost use Rattle.std.specs.Prelude.{◌≡◌, ◌+◌, ◌*◌, ◌<◌, ◌≤◌, nat_le, slice_index};
-ghost use Rattle.rule.specs.Sound.{position_limit, tradable as tradable_of};
-ghost use Rattle.rule.specs.Layout.{plus, minus, sound_book, positions_at};
-ghost use Rattle.ranges.specs.Ranges.{Room, row_passes};
-ghost use Rattle.book.specs.Sized.{Sized, Limited, book_terms, is_within, while_runs, basket_fits, positions_fit, tally_fits, codes_fit, given_fits, state_fits};
+ghost use Rattle.std.specs.Prelude.{◌≡◌, ◌+◌, ◌*◌, ◌<◌, ◌≤◌, nat_le, slice_index, slice_index_or};
+ghost use Rattle.lists.specs.Parts.{grid};
+ghost use Rattle.rule.specs.Sound.{position_limit, at_most, marks_fit, tradable as tradable_of};
+ghost use Rattle.rule.specs.Layout.{book_length, plus, minus, cube, sound_book, positions_at};
+ghost use Rattle.ranges.specs.Ranges.{all_pass};
+ghost use Rattle.book.specs.Sized.{Sized, book_terms, is_within, while_runs, basket_fits, positions_fit, tally_fits, codes_fit, given_fits, state_fits};
 
 use crate::limits;
 
@@ -11,17 +12,13 @@ use crate::limits;
 pub fn owed_of(cell: u64) -> u64
     ensures { result ≡ plus cell }
 {
-    if cell < 9223372036854775808 { cell } else { 0 }
+    cell.cast_signed().max(0).unsigned_abs()
 }
 
 pub fn due_of(cell: u64) -> u64
     ensures { result ≡ minus cell }
 {
-    if cell < 9223372036854775808 {
-        0
-    } else {
-        18446744073709551615 - cell + 1
-    }
+    cell.cast_signed().min(0).unsigned_abs()
 }
 
 // Both sides at most the limit. The cell is moved up by the limit, so that one test serves for both.
@@ -29,15 +26,7 @@ pub fn is_within(cell: u64, limit: u64) -> bool
     requires { limit ≤ position_limit }
     ensures { result ≡ is_within limit cell }
 {
-    std::num::wrapping_add_u64(cell, limit) <= 2 * limit
-}
-
-// The highest bit is set exactly where one side is above the limit.
-fn beyond(cell: u64, limit: u64) -> u64
-    requires { limit ≤ position_limit }
-    ensures { nat_le result 9223372036854775807 ≡ is_within limit cell }
-{
-    ranges::above(std::num::wrapping_add_u64(cell, limit), 2 * limit)
+    cell.wrapping_add(limit) <= 2 * limit
 }
 
 // "after three runs positions and notices are zero"
@@ -54,179 +43,159 @@ pub fn tradable(book: &[u64], basket: usize) -> bool
 {
     let issues = book[layout::ISSUES] as usize;
     let kinds = baskets::kinds_of(basket as u64);
-    let mut o = layout::TERMS;
-    let mut i = 0;
-    while i < issues {
-        if baskets::is_eligible(book, o, &kinds) {
-            return true;
-        }
-        o += layout::TERM;
-        i += 1;
-    }
-    false
+    (0..issues).any(|i| baskets::is_eligible(book, layout::TERMS + layout::TERM * i, &kinds))
 }
 
-// "positions are within 10^13 and sum to zero per basket, a basket with a position has an unmarked issue": one basket.
-fn basket_fits(book: &[u64], basket: usize, limit: u64) -> bool
-    requires { (Limited book.now limit) × (basket < 7) }
-    ensures { result ≡ basket_fits book.now limit (slice_index book.now 0) basket (positions_at + 12 * basket) }
-{
-    let participants = book[layout::PARTICIPANTS] as usize;
-    let at = layout::POSITIONS + layout::MOST_PARTICIPANTS * basket;
-    let mut owed = 0;
-    let mut due = 0;
-    let mut p = 0;
-    while p < participants {
-        let cell = book[at + p];
-        if !is_within(cell, limit) {
+// A limit of signed cells, in yen or in lots.
+#[derive(Clone, Copy, Drop)]
+struct Limit {
+    most: u64,
+    ghost small: { most ≤ position_limit },
+}
+
+impl Limit {
+    // The highest bit is set exactly where one side is above the limit.
+    fn beyond(self, cell: u64) -> u64
+        ensures { nat_le result 9223372036854775807 ≡ is_within self.most cell }
+    {
+        ranges::above(cell.wrapping_add(self.most), 2 * self.most)
+    }
+
+    fn holds_for(self, cells: &[u64]) -> bool
+        ensures { result ≡ all_pass (is_within self.most) cells.now }
+    {
+        ranges::joined(cells, |cell| self.beyond(cell)) <= ranges::LOW_BITS
+    }
+}
+
+// A book of its length whose day's sizes are in range.
+#[derive(Drop)]
+struct Book<'a> {
+    cells: &'a [u64],
+    participants: usize,
+    issues: usize,
+    ghost sized: { Sized cells.now },
+    ghost participants_are: { participants ≡ slice_index_or cells.now 0 0 },
+    ghost issues_are: { issues ≡ slice_index_or cells.now 1 0 },
+}
+
+impl<'a> Book<'a> {
+    // "Codes rise strictly", each with its check digit.
+    fn codes_fit(&self) -> bool
+        ensures { result ≡ codes_fit self.now.cells.now }
+    {
+        isin::codes_right(&self.cells[layout::CODES..], self.issues)
+    }
+
+    // Rows of lots, one for each participant.
+    fn lots_at_most(&self, at: usize, bound: u64) -> bool
+        requires there { at + 384 ≤ book_length }
+        requires small { bound ≤ 9223372036854775807 }
+        ensures { result ≡ at_most bound self.now.participants self.now.issues (grid self.now.cells.now at 32 self.now.participants self.now.issues) }
+    {
+        ranges::rows_at_most(
+            self.cells,
+            at,
+            layout::MOST_ISSUES,
+            self.participants,
+            self.issues,
+            bound,
+        )
+    }
+
+    // Inlined, since the compiler then knows how few participants there are.
+    #[inline(always)]
+    fn marks_fit(&self, at: usize) -> bool
+        requires { at + 1008 ≤ book_length }
+        ensures { result ≡ marks_fit self.now.participants (cube self.now.cells.now at self.now.participants) }
+    {
+        ranges::marks_fit(
+            self.cells,
+            at,
+            layout::SQUARE,
+            layout::MOST_PARTICIPANTS,
+            self.participants,
+        )
+    }
+
+    // What opening brought: "all opening ranges, codes .. hold".
+    fn given_fits(&self) -> bool
+        ensures { result ≡ given_fits self.now.cells.now }
+    {
+        self.codes_fit()
+            && ranges::terms_fit(self.cells, layout::TERMS, self.issues)
+            && self.lots_at_most(layout::RECEIPTS, limits::RECEIPT)
+            && self.marks_fit(layout::PAIRS)
+    }
+
+    // "positions are within 10^13 and sum to zero per basket, a basket with a position has an unmarked issue": one basket.
+    fn basket_fits(&self, basket: usize, limit: Limit) -> bool
+        requires { basket < 7 }
+        ensures { result ≡ basket_fits self.now.cells.now limit.most (slice_index self.now.cells.now 0) basket (positions_at + 12 * basket) }
+    {
+        let at = layout::POSITIONS + layout::MOST_PARTICIPANTS * basket;
+        let mut owed = 0;
+        let mut due = 0;
+        for cell in &self.cells[at..at + self.participants] {
+            if !is_within(*cell, limit.most) {
+                return false;
+            }
+            owed += owed_of(*cell);
+            due += due_of(*cell);
+        }
+        owed == due && (owed == 0 || tradable(self.cells, basket))
+    }
+
+    fn positions_fit(&self, limit: Limit) -> bool
+        ensures { result ≡ positions_fit self.now.cells.now limit.most }
+    {
+        (0..layout::BASKETS).all(|basket| self.basket_fits(basket, limit))
+    }
+
+    // "a tally is within 10^11 × runs done"
+    fn tally_fits(&self, limit: Limit) -> bool
+        ensures { result ≡ tally_fits self.now.cells.now limit.most }
+    {
+        (0..self.participants).all(|p| {
+            let at = layout::TALLY + layout::MOST_ISSUES * p;
+            limit.holds_for(&self.cells[at..at + self.issues])
+        })
+    }
+
+    // What the other calls change.
+    fn state_fits(&self) -> bool
+        ensures { result ≡ state_fits self.now.cells.now }
+    {
+        let runs = self.cells[layout::RUNS];
+        if runs > 3 || self.cells[layout::TRADES] > limits::TRADES {
             return false;
         }
-        owed += owed_of(cell);
-        due += due_of(cell);
-        p += 1;
+        let lots = while_runs(runs, limits::NOTICE);
+        let yen = Limit {
+            most: while_runs(runs, limits::POSITION),
+        };
+        let tally = Limit {
+            most: limits::TALLY * runs,
+        };
+        self.lots_at_most(layout::NOTICES, lots)
+            && self.positions_fit(yen)
+            && self.tally_fits(tally)
+            && self.marks_fit(layout::TODAY)
     }
-    if owed != due {
-        return false;
-    }
-    if owed == 0 {
-        return true;
-    }
-    tradable(book, basket)
-}
-
-fn positions_fit(book: &[u64], limit: u64) -> bool
-    requires { Limited book.now limit }
-    ensures { result ≡ positions_fit book.now limit }
-{
-    let mut k = 0;
-    while k < layout::BASKETS {
-        if !basket_fits(book, k, limit) {
-            return false;
-        }
-        k += 1;
-    }
-    true
-}
-
-// One participant's tally.
-fn row_within(book: &[u64], at: usize, m: usize, limit: u64) -> bool
-    requires { (Room book.now at m) × (limit ≤ position_limit) }
-    ensures { result ≡ row_passes (is_within limit) book.now at m }
-{
-    let mut bits = 0;
-    let mut i = 0;
-    while i < m {
-        bits = bits | beyond(book[at + i], limit);
-        i += 1;
-    }
-    bits <= ranges::LOW_BITS
-}
-
-// "a tally is within 10^11 × runs done"
-fn tally_fits(book: &[u64], limit: u64) -> bool
-    requires { Limited book.now limit }
-    ensures { result ≡ tally_fits book.now limit }
-{
-    let participants = book[layout::PARTICIPANTS] as usize;
-    let issues = book[layout::ISSUES] as usize;
-    let mut o = layout::TALLY;
-    let mut p = 0;
-    while p < participants {
-        if !row_within(book, o, issues, limit) {
-            return false;
-        }
-        o += layout::MOST_ISSUES;
-        p += 1;
-    }
-    true
-}
-
-// "Codes rise strictly", each with its check digit.
-fn codes_fit(book: &[u64]) -> bool
-    requires { Sized book.now }
-    ensures { result ≡ codes_fit book.now }
-{
-    let issues = book[layout::ISSUES] as usize;
-    isin::codes_right(&book[layout::CODES..], issues)
-}
-
-// What opening brought: "all opening ranges, codes .. hold".
-fn given_fits(book: &[u64]) -> bool
-    requires { Sized book.now }
-    ensures { result ≡ given_fits book.now }
-{
-    let n = book[layout::PARTICIPANTS] as usize;
-    let m = book[layout::ISSUES] as usize;
-    if !codes_fit(book) {
-        return false;
-    }
-    if !ranges::terms_fit(book, layout::TERMS, m) {
-        return false;
-    }
-    if !ranges::rows_at_most(
-        book,
-        layout::RECEIPTS,
-        layout::MOST_ISSUES,
-        n,
-        m,
-        limits::RECEIPT,
-    ) {
-        return false;
-    }
-    ranges::marks_fit(
-        book,
-        layout::PAIRS,
-        layout::SQUARE,
-        layout::MOST_PARTICIPANTS,
-        n,
-    )
-}
-
-// What the other calls change.
-fn state_fits(book: &[u64]) -> bool
-    requires { Sized book.now }
-    ensures { result ≡ state_fits book.now }
-{
-    let n = book[layout::PARTICIPANTS] as usize;
-    let m = book[layout::ISSUES] as usize;
-    let runs = book[layout::RUNS];
-    if runs > 3 {
-        return false;
-    }
-    if book[layout::TRADES] > limits::TRADES {
-        return false;
-    }
-    let lots = while_runs(runs, limits::NOTICE);
-    if !ranges::rows_at_most(book, layout::NOTICES, layout::MOST_ISSUES, n, m, lots) {
-        return false;
-    }
-    let yen = while_runs(runs, limits::POSITION);
-    if !positions_fit(book, yen) {
-        return false;
-    }
-    if !tally_fits(book, limits::TALLY * runs) {
-        return false;
-    }
-    ranges::marks_fit(
-        book,
-        layout::TODAY,
-        layout::SQUARE,
-        layout::MOST_PARTICIPANTS,
-        n,
-    )
 }
 
 pub fn sound(book: &[u64]) -> bool
     ensures { result ≡ sound_book book.now }
 {
-    if book.len() != layout::LENGTH {
+    if book.len() != layout::LENGTH
+        || !ranges::sizes_fit(book[layout::PARTICIPANTS], book[layout::ISSUES])
+    {
         return false;
     }
-    if !ranges::sizes_fit(book[layout::PARTICIPANTS], book[layout::ISSUES]) {
-        return false;
-    }
-    if !given_fits(book) {
-        return false;
-    }
-    state_fits(book)
+    let book = Book {
+        cells: book,
+        participants: book[layout::PARTICIPANTS] as usize,
+        issues: book[layout::ISSUES] as usize,
+    };
+    book.given_fits() && book.state_fits()
 }

@@ -1,11 +1,22 @@
--- Laws of tests, and of a loop that goes through rows a stride apart: of no book, they could stand in crates/lists. Assumes nothing.
-use Rattle.std.proofs.Common.{◌≡◌, ℕ, zero, suc, ◌+◌, ◌-◌, ◌*◌, ◌%◌, ◌^◌, ◌<◌, ◌≤◌, Bool, true, false, ◌&&◌, eqb, leb, List, [], ◌∷◌, get_or, sym, refl, ap, ◌∙◌, ap₂, add-zero, add-one, arith, pow_pos, ne_eqb, le-leb}
+-- Laws of tests, of `all` and `any`, and of a loop that gathers bits: of no book, they could stand in crates/lists. Assumes nothing.
+use Rattle.std.proofs.Common.{◌≡◌, ℕ, zero, suc, ◌+◌, ◌-◌, ◌%◌, ◌^◌, ◌<◌, ◌≤◌, Bool, true, false, ◌&&◌, eqb, leb, List, length, get_or, sym, refl, ap, ◌∙◌, ap₂, add-zero, add-one, arith, pow_pos, ne_eqb, le-leb}
 use mathlib.Core.Bool.{and-true, and_assoc}
 use native.Mathlib.Decide.{dec_le}
 use lib.Bits.{bit_or, or_lt, or_add_and, and_le_l, and_le_r}
 use borrow.Author.Tests.{lt-leb}
-use Rattle.lists.specs.Tests.{all_below, holds}
-use Rattle.lists.proofs.TestLaws.{go, stop, and_no, all_none, all_more, all-stop, all-through}
+use Rattle.std.specs.Bool.{MatchBool}
+use Rattle.std.specs.List.{range_with_len, FoldsTo, AllWithin, HoldsAt}
+use Rattle.std.specs.Fn.{Called}
+use Rattle.std.specs.Iterator.{YieldsThen}
+use Rattle.std.specs.Option.{MatchOption}
+use Rattle.std.specs.Prelude.{Option}
+use Rattle.std.specs.declared.ops.Range.{Range}
+use Rattle.std.proofs.iter.Yields.{nat_range_steps}
+use Rattle.std.proofs.lemmas.Iterator.{YieldsList, YieldsList-from_range, cases_from_all, cases_from_any}
+use denote.Param.Members.{Mut}
+use Rattle.std.proofs.lemmas.List.FromFn.{length-range_with_len, get_or-range_with_len}
+use Rattle.lists.specs.Tests.{all_below}
+use Rattle.lists.proofs.TestLaws.{all_none, all-stop, all_of, all-ext}
 
 and-swap : (a b c d : Bool) → ((a && b) && (c && d)) ≡ ((a && c) && (b && d))
 and-swap true true c d = refl
@@ -46,48 +57,46 @@ all-overlap t a o n h l =
     s : ℕ → Bool
     s k = t (o + k)
 
--- ---- a list of tests with a return for each
+-- ---- what `all` returns, of a list and of the numbers below n
 
--- one of them failed
-pub holds-stop : (ts : List Bool) (i : ℕ) → get_or ts i true ≡ false → false ≡ holds ts
-unfolding holds
-holds-stop [] i e = sym e
-holds-stop (t ∷ ts) zero e = sym (stop t (holds ts) e)
-holds-stop (t ∷ ts) (suc i) e = sym (ap (λ (r : Bool). t && r) (sym (holds-stop ts i e)) ∙ and_no t)
+module _ {X : Type 0} (t : X → Bool) (xs : List X) (d : X) where
+  said : (r : Bool) → MatchBool r (AllWithin (λ x. t x ≡ true) xs 0 (length xs)) ((k : ℕ) × (k < length xs) × HoldsAt (λ x. t x ≡ false) xs k)
+      → r ≡ all_below (length xs) (λ i. t (get_or xs i d))
+  said true h = sym (all_of (λ i. t (get_or xs i d)) (length xs) (λ k l. h k d (omega arith) l))
+  said false (k, l, h) = sym (all-stop (λ i. t (get_or xs i d)) (length xs) k l (h d))
 
--- each passed, and the last is the answer
-pub holds-go : {t r : Bool} (ts : List Bool) → t ≡ true → r ≡ holds ts → r ≡ holds (t ∷ ts)
-unfolding holds
-holds-go ts e h = sym (go _ _ e (sym h))
+  module _ {S A F : Type 0} {steps : S → Option A → S → Type 0} {v : A → X} {g : Mut F (A × Unit {0}) Bool} {s : S} (u : S) {f : F} {r : Bool} where
+    pub all-items : ((ys : List A) × (o : Option A) × (j : F) × YieldsThen steps s ys o u × FoldsTo (λ p x q. Called g p (x, tt) true q) f ys j × MatchOption o (r ≡ true) (λ x. (r ≡ false) × ((h : F) × Called g j (x, tt) false h)))
+        → YieldsList steps v s xs
+        → ((x : A) (q : F) → Called g f (x, tt) true q → (q ≡ f) × (t (v x) ≡ true)) → ((x : A) (q : F) → Called g f (x, tt) false q → t (v x) ≡ false)
+        → r ≡ all_below (length xs) (λ i. t (get_or xs i d))
+    all-items ran e passed failed = said r (cases_from_all u _ _ (λ x. t x ≡ true) (λ x. t x ≡ false) ran e passed failed)
 
-pub holds-end : {t r : Bool} → r ≡ t → r ≡ holds (t ∷ [])
-unfolding holds
-holds-end {t} h = h ∙ sym (and-true t)
+module _ (t : ℕ → Bool) (n : ℕ) {F : Type 0} {g : Mut F (ℕ × Unit {0}) Bool} {s : Range ℕ} (u : Range ℕ) {f : F} {r : Bool} where
+  pub all-below : ((ys : List ℕ) × (o : Option ℕ) × (j : F) × YieldsThen nat_range_steps s ys o u × FoldsTo (λ p x q. Called g p (x, tt) true q) f ys j × MatchOption o (r ≡ true) (λ x. (r ≡ false) × ((h : F) × Called g j (x, tt) false h)))
+      → s ≡ record { start = 0; end = n }
+      → ((x : ℕ) (q : F) → Called g f (x, tt) true q → (q ≡ f) × (t x ≡ true)) → ((x : ℕ) (q : F) → Called g f (x, tt) false q → t x ≡ false)
+      → r ≡ all_below n t
+  all-below ran e passed failed =
+      all-items t (range_with_len 0 n) 0 u ran (YieldsList-from_range 0 n n e (omega arith)) passed failed
+      ∙ ap (λ (m : ℕ). all_below m (λ i. t (get_or (range_with_len 0 n) i 0))) (length-range_with_len 0 n)
+      ∙ all-ext _ _ n (λ i l. let z : 0 + i ≡ i = omega arith in ap t (get_or-range_with_len 0 n i 0 l ∙ z))
 
--- ---- a loop that goes through rows a stride apart
+  -- and of `any`
+  pub any-below : ((ys : List ℕ) × (o : Option ℕ) × (j : F) × YieldsThen nat_range_steps s ys o u × FoldsTo (λ p x q. Called g p (x, tt) false q) f ys j × MatchOption o (r ≡ false) (λ x. (r ≡ true) × ((h : F) × Called g j (x, tt) true h)))
+      → s ≡ record { start = 0; end = n }
+      → ((x : ℕ) (q : F) → Called g f (x, tt) true q → t x ≡ true) → ((x : ℕ) (q : F) → Called g f (x, tt) false q → (q ≡ f) × (t x ≡ false))
+      → MatchBool r ((k : ℕ) × (k < n) × (t k ≡ true)) ((k : ℕ) → k < n → t k ≡ false)
+  any-below ran e passed failed =
+      found r (cases_from_any u _ _ (λ x. t x ≡ true) (λ x. t x ≡ false) ran (YieldsList-from_range 0 n n e (omega arith)) passed failed)
+    where
+      at_place : (b : Bool) (k : ℕ) → k < n → t (get_or (range_with_len 0 n) k 0) ≡ b → t k ≡ b
+      at_place b k l h = let z : 0 + k ≡ k = omega arith in ap t (sym (get_or-range_with_len 0 n k 0 l ∙ z)) ∙ h
 
--- it is at row p, which begins at o, and the rows before passed the test
-pub record Passed (test : ℕ → ℕ → Bool) (at stride n o p : ℕ) : Type 0 where
-  pub here : p ≤ n
-  pub begin : o ≡ at + stride * p
-  pub before : all_below p (λ q. test q (at + stride * q)) ≡ true
-
-pub passed_none : (test : ℕ → ℕ → Bool) (at stride n : ℕ) → Passed test at stride n at 0
-passed_none test at stride n = record { here = omega arith; begin = omega arith; before = all_none _ }
-
-module _ {test : ℕ → ℕ → Bool} {at stride n o p : ℕ} (h : Passed test at stride n o p) where
-  at_row : {r : Bool} → test p o ≡ r → test p (at + stride * p) ≡ r
-  at_row e = ap (test p) (sym h.begin) ∙ e
-
-  pub passed-more : p < n → test p o ≡ true → Passed test at stride n (o + stride) (p + 1)
-  passed-more l e =
-      record { here = omega arith; begin = omega (arith, h.begin); before = all_more (λ q. test q (at + stride * q)) p h.before (at_row e) }
-
-  pub passed-stop : p < n → test p o ≡ false → all_below n (λ q. test q (at + stride * q)) ≡ false
-  passed-stop l e = all-stop (λ q. test q (at + stride * q)) n p l (at_row e)
-
-  pub passed-all : n ≤ p → all_below n (λ q. test q (at + stride * q)) ≡ true
-  passed-all l = all-through (λ q. test q (at + stride * q)) n p h.here l h.before
+      found : (r : Bool) → MatchBool r ((k : ℕ) × (k < length (range_with_len 0 n)) × HoldsAt (λ x. t x ≡ true) (range_with_len 0 n) k) (AllWithin (λ x. t x ≡ false) (range_with_len 0 n) 0 (length (range_with_len 0 n)))
+          → MatchBool r ((k : ℕ) × (k < n) × (t k ≡ true)) ((k : ℕ) → k < n → t k ≡ false)
+      found true (k, l, h) = let l' : k < n = omega (arith, length-range_with_len 0 n) in (k, l', at_place true k l' (h 0))
+      found false h = λ k l. at_place false k l (h k 0 (omega arith) (omega (arith, length-range_with_len 0 n)))
 
 -- ---- a loop that gathers bits, and has its answer at the end
 
@@ -96,8 +105,11 @@ pub record Gathered (t : ℕ → Bool) (n i : ℕ) (r : Bool) : Type 0 where
   pub here : i ≤ n
   pub said : r ≡ all_below i t
 
+pub gathered_begin : (t : ℕ → Bool) (n : ℕ) {r : Bool} → r ≡ true → Gathered t n 0 r
+gathered_begin t n e = record { here = omega arith; said = e ∙ sym (all_none t) }
+
 pub gathered_none : (t : ℕ → Bool) (n : ℕ) → Gathered t n 0 true
-gathered_none t n = record { here = omega arith; said = sym (all_none t) }
+gathered_none t n = gathered_begin t n refl
 
 module _ {t : ℕ → Bool} {n i : ℕ} {r : Bool} (h : Gathered t n i r) where
   pub gathered-more : {q : Bool} → i < n → q ≡ (r && t i) → Gathered t n (i + 1) q

@@ -1,5 +1,5 @@
 -- The ranges of opening data as tests on cells, and the room that they need. Assumes nothing.
-use Rattle.std.specs.Prelude.{ℕ, ◌+◌, ◌*◌, ◌≤◌, Bool, ◌&&◌, leb, List, length, nat_eq, nat_le, slice_index}
+use Rattle.std.specs.Prelude.{ℕ, ◌+◌, ◌*◌, ◌≤◌, Bool, ◌&&◌, leb, List, length, nat_eq, slice_index}
 use Rattle.lists.specs.Tests.{all_below}
 use Rattle.lists.specs.Parts.{grid}
 use Rattle.rule.specs.Sound.{at_most}
@@ -28,11 +28,9 @@ pub record Squares (cells : List ℕ) (at apart stride n : ℕ) : Type 0 where
   pub square : stride * n ≤ apart
   pub room : at + apart * 7 ≤ length cells
 
--- an issue's six cells
-unfoldable pub terms_at_fit : List ℕ → ℕ → Bool
-terms_at_fit b at =
-    nat_le (slice_index b at) 6 && nat_le 1000 (slice_index b (at + 1)) && nat_le (slice_index b (at + 1)) 30000 && nat_le (slice_index b (at + 2)) 20000
-    && nat_le (slice_index b (at + 3)) 366 && nat_le (slice_index b (at + 4)) 1 && nat_le (slice_index b (at + 5)) 1
+-- every cell passes a test
+abbrev pub all_pass : (ℕ → Bool) → List ℕ → Bool
+all_pass test b = all_below (length b) (λ i. test (slice_index b i))
 
 -- m cells from a place on pass a test
 abbrev pub row_passes : (ℕ → Bool) → List ℕ → ℕ → ℕ → Bool

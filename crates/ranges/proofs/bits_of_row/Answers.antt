@@ -3,13 +3,10 @@ use Rattle.std.proofs.Common.{arith}
 use Rattle.ranges.proofs.RangeLaws.{ends-are, three-are}
 use Rattle.ranges.proofs.bits_of_row.Goals as goal
 
-pub returns-then-m-le8 : goal.returns-then-m-le8
-returns-then-m-le8 c =
-    let a = c.args in
-    ends-are a.cells.now a.at a.m c.bits_of_four-first.result c.bits_of_four-last.result c.bits_of_four-first.ensures c.bits_of_four-last.ensures (omega arith) c.if-m-le8.true
+pub returns-in-4-to-8 : goal.returns-in-4-to-8
+returns-in-4-to-8 c = ends-are c.args.marks.now _ _ c.bits_of.ensures c.bits_of-in-4-to-8.ensures (omega arith) (omega arith)
 
-pub returns : goal.returns
-returns c =
-    let a = c.args in
-    three-are a.cells.now a.at a.m c.bits_of_four-first.result c.bits_of_four-last.result
-    c.bits_of_four-first.ensures c.bits_of_four-last.ensures c.bits_of_four-middle.result c.bits_of_four-middle.ensures (omega arith) (omega arith)
+pub returns-in-9-to-12 : goal.returns-in-9-to-12
+returns-in-9-to-12 c =
+    three-are c.args.marks.now _ _ c.bits_of-in-9-to-12.ensures c.bits_of-in-9-to-12-3.ensures (omega arith) _ c.bits_of-in-9-to-12-2.ensures
+    (omega arith) (omega arith)

@@ -1,23 +1,16 @@
-use Rattle.std.proofs.Common.{sym, ◌∙◌, arith}
-use Rattle.ranges.proofs.ScanLaws.{passed_none, passed-more, passed-stop, passed-all}
-use Rattle.ranges.proofs.RangeLaws.{marks-are, squares-next, squares-rows}
-use Rattle.lists.proofs.TestLaws.{said-no, said-yes}
+-- `ranges::marks_fit` meets its contract. Assumes nothing.
+use Rattle.std.proofs.Common.{◌+◌, ◌*◌, refl, sym, ◌∙◌, rules}
+use Rattle.std.proofs.iter.Serving.{serving}
+use Rattle.ranges.specs.Ranges.{square_fits}
+use Rattle.ranges.proofs.ScanLaws.{all-below}
+use Rattle.ranges.proofs.RangeLaws.{marks-are, within-seven}
 use Rattle.ranges.proofs.marks_fit.Goals as goal
 
-pub loop-k-init : goal.loop-k-init
-loop-k-init c = passed_none _ _ _ _
-
-pub square_fits-requires : goal.square_fits-requires
-square_fits-requires c = squares-rows c.requires c.loop-k.invariant.begin (omega arith)
-
-pub returns-then-not-square_fits : goal.returns-then-not-square_fits
-returns-then-not-square_fits c = sym (marks-are _ _ _ _ _ ∙ passed-stop c.loop-k.invariant (omega arith) (said-no _ _ c.square_fits.ensures c.if-not-square_fits.true))
-
-pub overflow_add-o : goal.overflow_add-o
-overflow_add-o c = omega (arith, squares-next c.requires c.loop-k.invariant.begin (omega arith))
-
-pub loop-k-preserved : goal.loop-k-preserved
-loop-k-preserved c = passed-more c.loop-k.invariant (omega arith) (said-yes _ _ c.square_fits.ensures c.if-not-square_fits.false)
+pub all-requires-clause-callable : goal.all-requires-clause-callable
+all-requires-clause-callable c = grind (serving, within-seven)
 
 pub returns : goal.returns
-returns c = sym (marks-are _ _ _ _ _ ∙ passed-all c.loop-k.invariant (omega arith))
+returns c =
+    let a = c.args in
+    all-below (λ k. square_fits a.cells.now (a.at + a.apart * k) a.stride a.n) 7 _ c.all.ensures.ran refl (λ x q k. search rules) (λ x q k. search rules)
+    ∙ sym (marks-are _ _ _ _ _)

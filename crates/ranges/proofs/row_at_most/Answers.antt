@@ -1,15 +1,10 @@
-use Rattle.std.proofs.Common.{Bool, ◌&&◌, leb, ap, ◌∙◌, arith}
-use Rattle.ranges.proofs.ScanLaws.{gathered_none, gathered-more, gathered-all, bits_below}
+-- `ranges::row_at_most` meets its contract. Assumes nothing.
+use Rattle.std.proofs.Common.{ℕ, ◌+◌, ◌-◌, leb, ◌∙◌, arith, rules}
+use Rattle.ranges.proofs.RangeLaws.{part-passes}
 use Rattle.ranges.proofs.row_at_most.Goals as goal
 
-pub loop-i-init : goal.loop-i-init
-loop-i-init c = gathered_none _ _
-
-pub loop-i-preserved : goal.loop-i-preserved
-loop-i-preserved c =
-    let w = c.loop-i in
-    gathered-more w.invariant (omega arith)
-    (bits_below w.bits c.above-bits.result 63 ∙ ap (λ (r : Bool). leb w.bits 9223372036854775807 && r) c.above-bits.ensures)
-
 pub returns : goal.returns
-returns c = gathered-all c.loop-i.invariant (omega arith)
+returns c =
+    let a = c.args in
+    c.joined.ensures 63 (λ (x : ℕ). leb x a.bound) (λ x y l p. search rules)
+    ∙ part-passes (λ (x : ℕ). leb x a.bound) a.cells.now a.at (a.at + a.m - a.at) a.m (omega arith) (omega arith)

@@ -1,17 +1,15 @@
-use Rattle.std.proofs.Common.{sym, ◌∙◌, arith}
-use Rattle.ranges.proofs.ScanLaws.{passed_none, passed-more, passed-stop, passed-all}
-use Rattle.ranges.proofs.RangeLaws.{terms-are}
-use Rattle.lists.proofs.TestLaws.{said-no, said-yes}
+-- `ranges::terms_fit` meets its contract. Assumes nothing.
+use Rattle.std.proofs.Common.{List, [], ℕ, ◌∙◌, arith, rules}
+use Rattle.std.proofs.lemmas.Iterator.{YieldsList-from_slice}
+use Rattle.rule.specs.Day.{terms_of}
+use Rattle.rule.specs.Sound.{terms_fit}
+use Rattle.ranges.proofs.ScanLaws.{all-items}
+use Rattle.ranges.proofs.RangeLaws.{terms-cut}
 use Rattle.ranges.proofs.terms_fit.Goals as goal
 
-pub loop-i-init : goal.loop-i-init
-loop-i-init c = passed_none _ _ _ _
-
-pub returns-then-not-terms_at_fit : goal.returns-then-not-terms_at_fit
-returns-then-not-terms_at_fit c = let w = c.loop-i.invariant in sym (terms-are _ _ _ ∙ passed-stop w (omega arith) (said-no _ _ c.terms_at_fit.ensures c.if-not-terms_at_fit.true))
-
-pub loop-i-preserved : goal.loop-i-preserved
-loop-i-preserved c = let w = c.loop-i.invariant in passed-more w (omega arith) (said-yes _ _ c.terms_at_fit.ensures c.if-not-terms_at_fit.false)
-
 pub returns : goal.returns
-returns c = sym (terms-are _ _ _ ∙ passed-all c.loop-i.invariant (omega arith))
+returns c =
+    let a = c.args in
+    all-items (λ (x : List ℕ). terms_fit (terms_of x)) c.as_chunks.result.0.now [] _ c.all.ensures.ran (YieldsList-from_slice _ cc)
+    (λ x q k. search rules) (λ x q k. search rules)
+    ∙ terms-cut _ _ _ (omega arith) c.as_chunks.ensures.front

@@ -1,0 +1,12 @@
+-- `book::sound::Book::codes_fit` meets its contract. Assumes nothing.
+use Rattle.std.proofs.Common.{ℕ, ap, ◌∙◌}
+use Rattle.lists.specs.Parts.{grid}
+use Rattle.rule.specs.Isin.{codes_right}
+use Rattle.book.proofs.SoundLaws.{codes-there}
+use Rattle.book.proofs.sound.Book.codes_fit.Goals as goal
+
+pub returns : goal.returns
+returns c =
+    let s = c.args.self.now in
+    let b = s.cells.now in
+    c.codes_right.ensures ∙ ap codes_right (codes-there b 4 s.issues ∙ ap (λ (n : ℕ). grid b 4 12 n 12) s.issues_are)

@@ -1,7 +1,0 @@
--- `book::sound::is_within` meets its contract. Assumes nothing.
-use Rattle.std.proofs.Common.{arith}
-use Rattle.book.proofs.SoundLaws.{within-is}
-use Rattle.book.proofs.sound.is_within.Goals as goal
-
-pub returns : goal.returns
-returns c = within-is _ _ (omega arith) (omega arith) c.wrapping_add_u64.ensures.value
