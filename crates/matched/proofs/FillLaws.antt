@@ -105,7 +105,7 @@ module _ {b : List ℕ} {e : Entry} {rates usable : List ℕ} {all : ℕ} {order
 
   pub fill_is : (k : ℕ) {lent part : List ℕ} {f : Filling} {lots' : List ℕ} → lent ≡ order → part ≡ lent
       → FilledAs (filled (get_or b 2 0) e.preferential (book_terms b) (take n usable) (take (length lent) (part ++ drop (length lent) (zeros 32)))
-        (forced_issue k (book_terms b) (take n (take (from + n - from) (drop from b)))) e.amount.0) f lots'
+      (forced_issue k (book_terms b) (take n (take (from + n - from) (drop from b)))) e.amount.0) f lots'
       → FilledAs (filled_in b k e usable order) f lots'
   unfolding filled_in
   fill_is k {lent} {part} {f} {lots'} o p q =
