@@ -13,7 +13,6 @@ use Rattle.lists.specs.Tables.{from}
 use Rattle.lists.specs.Parts.{block}
 use Rattle.lists.specs.Folds.{foldl, Every}
 use Rattle.lists.specs.Order.{insert, sorted}
-use Rattle.lists.proofs.TestLaws.{pick-elim}
 use Rattle.lists.proofs.PartLaws.{block-get, length-block}
 use Rattle.rule.specs.Matching.{with}
 

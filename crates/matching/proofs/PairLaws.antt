@@ -8,7 +8,7 @@ use lib.ListN.{length, get_or}
 use lib.Dec.{eqb}
 use borrow.Author.Tests.{eq-eqb, ne_eqb}
 use Rattle.lists.specs.Tables.{from, up_to}
-use Rattle.lists.specs.Folds.{foldl, keep, joined, Every}
+use Rattle.lists.specs.Folds.{foldl, keep, joined}
 use Rattle.lists.proofs.TestLaws.{pick_yes, pick_no}
 use Rattle.lists.proofs.FoldLaws.{every-keep}
 use Rattle.lists.proofs.AppendLaws.{keep_append}

@@ -1,6 +1,6 @@
 -- A deliverer's turn, and all turns, one after the other. Assumes nothing.
 use mathlib.Core.Path.{◌≡◌, refl, sym, ap, ap₂, ◌∙◌}
-use mathlib.Core.Bool.{Bool, false}
+use mathlib.Core.Bool.{false}
 use mathlib.Core.List.{List, [], ◌∷◌, ◌++◌, map, append-nil}
 use Prim.Native.Nat.{ℕ, ◌+◌, ◌-◌, ◌≤◌, ◌<◌}
 use native.Mathlib.Nat.{le_trans, le_refl}
@@ -11,7 +11,7 @@ use lib.Seq.{drop-cons, take_all, take_at, drop_at}
 use Rattle.std.proofs.lemmas.List.{take-map, drop-map}
 use borrow.Rule.Slice.PartMut.{put_mid}
 use Rattle.std.specs.List.{refill}
-use Rattle.lists.specs.Folds.{foldl, Every}
+use Rattle.lists.specs.Folds.{foldl}
 use Rattle.lists.specs.Order.{sorted, ranked}
 use Rattle.lists.proofs.AppendLaws.{map-append}
 use Rattle.lists.proofs.FoldLaws.{every-at, every-all, every_map}
@@ -19,7 +19,6 @@ use Rattle.lists.proofs.OrderLaws.{length-sorted, ranked-below}
 use Rattle.rule.specs.Matching.{Match, meet, with, turn, deliverers}
 use Rattle.rule.specs.Matching as rule
 use Rattle.ranking.specs.Ranks.{Keyed}
-use Rattle.ranking.proofs.RankLaws.{length-ranked}
 use Rattle.matching.specs.declared.Match.{Match as Entry}
 use Rattle.matching.specs.declared.Left.{Left}
 use Rattle.matching.specs.Plans.{match_of, left_of, SameBuffers, Room, Meeting, Turning, Drawing}

@@ -1,7 +1,7 @@
 -- Matches as they stand in a plan, and what the functions ask. Assumes nothing.
-use Rattle.std.specs.Prelude.{◌≡◌, ℕ, ◌+◌, ◌*◌, ◌≤◌, ◌<◌, List, [], ◌∷◌, map, length, get_or, eqb, Bool, true, false}
+use Rattle.std.specs.Prelude.{◌≡◌, ℕ, ◌*◌, ◌≤◌, ◌<◌, List, [], map, length, eqb, Bool, true}
 use Rattle.arrayvec.specs.ArrayVec.{ArrayVec}
-use Rattle.lists.specs.Tables.{table, cell, up_to}
+use Rattle.lists.specs.Tables.{cell, up_to}
 use Rattle.lists.specs.Parts.{grid}
 use Rattle.lists.specs.Folds.{foldl, keep, Every}
 use Rattle.rule.specs.Matching.{Match, OneZero, meet, with, turn, deliverers, preferential}

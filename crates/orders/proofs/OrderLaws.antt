@@ -1,8 +1,8 @@
 -- Laws of the order of a deliverer's issues. Assumes nothing.
-use mathlib.Core.Path.{◌≡◌, refl, sym, ap, ap₂, ◌∙◌, subst}
+use mathlib.Core.Path.{◌≡◌, sym, ap, ap₂, ◌∙◌, subst}
 use mathlib.Core.Logic.{◌≢◌, inl, inr}
 use mathlib.Core.Bool.{Bool, false}
-use mathlib.Core.List.{List, [], ◌++◌}
+use mathlib.Core.List.{List, []}
 use Rattle.std.specs.Prelude.{Option}
 use Prim.Native.Nat.{ℕ, ◌+◌, ◌-◌, ◌*◌, ◌≤◌, ◌<◌}
 use native.Mathlib.Nat.{le_refl, not-suc-le-zero}
@@ -30,7 +30,7 @@ use Rattle.ordering.proofs.OrderLaws.{ordered-moved}
 use Rattle.rows.specs.Rows.{Becomes}
 use Rattle.rows.proofs.RowLaws.{lent-size, lent-in, lent_out}
 use Rattle.orders.specs.Sizes.{issues_in}
-use Rattle.orders.specs.Orders.{Same, notified_in, RankedAt, Orders, Rankable, key_in, OrderedAt, Loadable, Loaded, OrderAsked, OrderFor}
+use Rattle.orders.specs.Orders.{Same, notified_in, RankedAt, Orders, Rankable, OrderedAt, Loadable, Loaded, OrderAsked, OrderFor}
 
 -- ---- a row of a deliverer's issues, ranked
 

@@ -1,8 +1,6 @@
 -- Laws of booking a match. Assumes nothing.
-use Rattle.std.proofs.Common.{◌≡◌, ℕ, ◌+◌, ◌-◌, ◌%◌, ◌^◌, ◌<◌, ltb, ◌≢◌, List, length, get_or, set, refl, ap, sym, ◌∙◌, le-ltb, lt-ltb, not-suc-le-zero, arith, length-set, get_or-set_other, get_or-set_same, below_more}
-use Rattle.lists.specs.Tests.{pick}
-use Rattle.lists.proofs.TestLaws.{pick_yes, pick_no}
-use Rattle.records.specs.Booked.{position_at, mark_at, tally_of, Shiftable, Shifted, Bookable, BookableLots, YenMoved, IssueMoved, LotsMovedTo}
+use Rattle.std.proofs.Common.{◌≡◌, ℕ, ◌+◌, ◌-◌, ◌%◌, ◌<◌, ◌≢◌, List, get_or, refl, ap, ◌∙◌, not-suc-le-zero, arith, below_more}
+use Rattle.records.specs.Booked.{tally_of, IssueMoved, LotsMovedTo}
 
 -- no lots move nothing: every cell of a book is a number of 64 bits
 pub none-moved : (b : List ℕ) (d r i : ℕ) {lots : ℕ} → lots ≡ 0 → get_or b (tally_of d i) 0 < 18446744073709551616 → get_or b (tally_of r i) 0 < 18446744073709551616 → IssueMoved b b d r i lots

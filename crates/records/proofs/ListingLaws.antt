@@ -1,5 +1,5 @@
 -- Laws of the two lists. Assumes nothing.
-use Rattle.std.proofs.Common.{◌≡◌, ℕ, zero, suc, ◌+◌, ◌-◌, ◌*◌, ◌<◌, ◌≤◌, Bool, ltb, ◌≢◌, List, [], ◌∷◌, ◌++◌, map, length, get_or, set, sym, refl, ap, ◌∙◌, ap₂, append-nil, add-zero, arith, length-append, le-ltb, lt-ltb}
+use Rattle.std.proofs.Common.{◌≡◌, ℕ, zero, suc, ◌+◌, ◌-◌, ◌*◌, ◌<◌, ◌≤◌, Bool, ltb, ◌≢◌, List, [], ◌∷◌, ◌++◌, map, length, get_or, sym, refl, ap, ◌∙◌, ap₂, append-nil, add-zero, arith, length-append, le-ltb, lt-ltb}
 use native.Mathlib.Decide.{dec_lt}
 use Rattle.lists.specs.Tests.{pick}
 use Rattle.lists.specs.Tables.{up_to}
@@ -7,7 +7,7 @@ use Rattle.lists.specs.Folds.{keep, joined, Every}
 use Rattle.lists.specs.Parts.{over}
 use Rattle.lists.proofs.TestLaws.{pick_yes, pick_no}
 use Rattle.lists.proofs.PartLaws.{length_over}
-use Rattle.lists.proofs.AppendLaws.{map-append, keep_append, joined-append, joined_length, up_to-more, over_none, over-more, over-one, over-next}
+use Rattle.lists.proofs.AppendLaws.{map-append, keep_append, joined-append, joined_length, up_to-more, over_none, over-more}
 use Rattle.records.specs.Listed.{line_for, lines_to, lines_for, LineRoom, Lined, LinesRoom, Listed}
 
 -- ---- the line of an issue, if it has lots

@@ -3,28 +3,23 @@ use mathlib.Core.Path.{◌≡◌, sym, ap, ◌∙◌, subst}
 use mathlib.Core.List.{List, [], ◌++◌, map}
 use Prim.Native.Nat.{ℕ, ◌+◌, ◌*◌, ◌≤◌, ◌<◌}
 use native.Mathlib.Omega.{arith}
-use lib.ListN.{length, get_or, take, drop, length-append, length-drop, length-map, get_or-append}
+use lib.ListN.{length, get_or, take, drop, length-append, length-drop, get_or-append}
 use lib.Seq.{length-take-le}
 use Rattle.lists.specs.Tests.{pick}
 use Rattle.lists.specs.Tables.{zeros}
-use Rattle.lists.specs.Parts.{block, grid}
-use Rattle.lists.proofs.TableLaws.{length-table}
-use Rattle.lists.proofs.PartLaws.{block-get, length-block}
 use Rattle.rule.specs.Value.{Terms}
 use Rattle.rule.specs.Baskets.{within}
 use Rattle.rule.specs.Run.{Allocation, basket_plan}
-use Rattle.rule.specs.Layout.{pairs_at, positions_at, plus, minus, view}
+use Rattle.rule.specs.Layout.{view}
 use Rattle.rule.proofs.BookLaws.{SoundBook}
 use Rattle.rule.proofs.DrawLaws.{EachOnce}
-use Rattle.rule.proofs.MatchingLaws.{few_matches}
 use Rattle.matching.specs.Plans.{match_of, Planned}
 use Rattle.matching.specs.declared.Match.{Match as Entry}
 use Rattle.arrayvec.specs.ArrayVec.{ArrayVec}
-use Rattle.matching.proofs.CallerLaws.{signed-one-zero}
 use Rattle.rows.specs.Rows.{Becomes}
 use Rattle.stock.specs.Stock.{inside_of, Issues}
-use Rattle.orders.specs.Sizes.{participants_in, issues_in}
-use Rattle.matched.specs.Filled.{positions_in, plan_in, Plannable}
+use Rattle.orders.specs.Sizes.{issues_in}
+use Rattle.matched.specs.Filled.{plan_in, Plannable}
 use Rattle.runs.specs.Running.{done_to, BookedTo, Done, BasketAsks, AllocateAsks}
 use Rattle.runs.proofs.ReadLaws.{sized-kept, participants-kept, issues-kept, terms-in-kept, plan-kept, nothing-covered}
 

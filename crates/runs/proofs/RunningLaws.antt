@@ -26,7 +26,6 @@ use Rattle.rule.specs.Layout.{receipts_at, notices_at, view}
 use Rattle.rule.proofs.RunLaws.{Runnable, Allocated, matched-from, few-allocations}
 use Rattle.rule.proofs.RunLots.{used-most, lots-from-most}
 use Rattle.rule.proofs.RunLists.{few_lines}
-use Rattle.matching.specs.Plans.{match_of}
 use Rattle.matching.specs.declared.Match.{Match as Entry}
 use Rattle.value.specs.Rated.{Rates}
 use Rattle.filling.specs.Match.{FilledAs}

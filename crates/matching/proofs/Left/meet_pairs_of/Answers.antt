@@ -1,6 +1,6 @@
-use Rattle.std.proofs.Common.{◌≡◌, ◌∙◌, ◌<◌, ◌+◌, ◌*◌, ℕ, arith, get_or, length, length-take, length-drop, sym}
+use Rattle.std.proofs.Common.{◌∙◌, ◌*◌, arith, sym}
 use Rattle.matching.proofs.ListLaws.{part-at}
-use Rattle.matching.proofs.PairLaws.{row-asks, row-met, row_past, row-stop, row-end}
+use Rattle.matching.proofs.PairLaws.{row-asks, row-met, row_past, row-stop}
 use Rattle.matching.proofs.Left.meet_pairs_of.Goals.{then-mark-eq1, else-mark-eq1}
 use Rattle.matching.proofs.Left.meet_pairs_of.Goals as goal
 

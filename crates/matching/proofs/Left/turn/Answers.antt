@@ -1,4 +1,4 @@
-use Rattle.std.proofs.Common.{◌∙◌, rules}
+use Rattle.std.proofs.Common.{rules}
 use Rattle.matching.proofs.TurnLaws.{amount-keyed, turn-within, turn-left}
 use Rattle.matching.proofs.Left.turn.Goals as goal
 
