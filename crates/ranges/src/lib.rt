@@ -70,7 +70,7 @@ pub fn row_at_most(cells: &[u64], at: usize, m: usize, bound: u64) -> bool
     joined(&cells[at..at + m], |cell| above(cell, bound)) <= LOW_BITS
 }
 
-// n such rows, a stride apart.
+// n such rows, a stride apart. Place and sizes are no struct: each caller has other rows, and asks once.
 pub fn rows_at_most(cells: &[u64], at: usize, stride: usize, n: usize, m: usize, bound: u64) -> bool
     requires { LimitedRows cells.now at stride n m bound }
     ensures { result ≡ at_most bound n m (grid cells.now at stride n m) }
