@@ -16,7 +16,7 @@ fn allocable_row(book: &[u64], participant: usize, row: &mut [u64])
     let runs = book[layout::RUNS];
     let notices = layout::NOTICES + layout::MOST_ISSUES * participant;
     let receipts = layout::RECEIPTS + layout::MOST_ISSUES * participant;
-    for i in 0..row.len() {
+    for (i, cell) in row.iter_mut().enumerate() {
         let terms = layout::TERMS + layout::TERM * i;
         let lots = baskets::allocable(
             runs,
@@ -25,7 +25,7 @@ fn allocable_row(book: &[u64], participant: usize, row: &mut [u64])
             Lots(book[notices + i]),
             Lots(book[receipts + i]),
         );
-        row[i] = lots.0;
+        *cell = lots.0;
     }
 }
 
@@ -49,10 +49,9 @@ pub fn mark_issues(book: &[u64], basket: u64, row: &mut [u64])
     ensures { Becomes (λ i c. c ≡ inside_of book.now basket i) row.old row.new }
 {
     let kinds = baskets::kinds_of(basket);
-    for i in 0..row.len() {
+    for (i, mark) in row.iter_mut().enumerate() {
         let within = baskets::is_among(&kinds, book[layout::TERMS + layout::TERM * i]);
-        let mark = lists::one_if(within);
-        row[i] = mark;
+        *mark = u64::from(within);
     }
 }
 
