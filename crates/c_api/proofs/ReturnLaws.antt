@@ -1,12 +1,11 @@
 -- Laws of what a call hands to C. Assumes nothing.
-use mathlib.Core.Path.{◌≡◌, sym, ap, ◌∙◌, subst}
-use Prim.Native.Nat.{ℕ, ◌≤◌, ◌<◌}
+use mathlib.Core.Path.{◌≡◌, sym, ap, ◌∙◌}
+use Prim.Native.Nat.{ℕ, ◌<◌}
 use native.Mathlib.Omega.{arith}
 use mathlib.Core.List.{List}
 use lib.ListN.{get_or}
-use Rattle.rule.specs.Calls.{Reply, accepted, counts, refused, most_matches, most_lines}
+use Rattle.rule.specs.Calls.{Reply, accepted, counts, refused}
 use Rattle.rule.specs.Layout.{view, run_of}
-use Rattle.rule.specs.Answers.{told_run}
 use Rattle.rule.proofs.RunLaws.{few-allocations}
 use Rattle.rule.proofs.RunLists.{few_lines}
 use Rattle.rule.proofs.RunCallLaws.{RunLeaves, run_sound}

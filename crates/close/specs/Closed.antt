@@ -1,5 +1,5 @@
 -- What closing asks of the lent lists, what it writes, and what it answers on a sound book. Assumes nothing.
-use Rattle.std.specs.Prelude.{◌≡◌, ℕ, ◌+◌, ◌*◌, ◌≤◌, List, map, length, get_or}
+use Rattle.std.specs.Prelude.{◌≡◌, ℕ, ◌*◌, ◌≤◌, List, map, length, get_or}
 use Rattle.lists.specs.Tests.{first}
 use Rattle.lists.specs.Folds.{joined}
 use Rattle.lists.specs.Parts.{grid, over}

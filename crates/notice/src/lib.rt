@@ -59,7 +59,12 @@ fn write_notice(book: &mut [u64], participant: u64, named: &[u64], lots: &[u64])
 }
 
 // In a sound book.
-fn notice_sound(book: &mut [u64], participant: u64, named: &[u64], lots: &[u64]) -> Result<(), Refusal>
+fn notice_sound(
+    book: &mut [u64],
+    participant: u64,
+    named: &[u64],
+    lots: &[u64],
+) -> Result<(), Refusal>
     requires { SoundBook book.old }
     ensures { (told result, book.new) ≡ notice_sound book.old participant named.now lots.now }
 {
@@ -88,7 +93,12 @@ fn notice_sound(book: &mut [u64], participant: u64, named: &[u64], lots: &[u64])
     Ok(())
 }
 
-pub fn notice(book: &mut [u64], participant: u64, issues: &[u64], lots: &[u64]) -> Result<(), Refusal>
+pub fn notice(
+    book: &mut [u64],
+    participant: u64,
+    issues: &[u64],
+    lots: &[u64],
+) -> Result<(), Refusal>
     ensures { (told result, book.new) ≡ notice_of book.old participant issues.now lots.now }
 {
     if !sound::sound(book) {

@@ -1,23 +1,20 @@
 -- Laws that the proofs of a run cite. Assumes nothing.
-use mathlib.Core.Path.{◌≡◌, refl, sym, ap, ap₂, ◌∙◌, subst}
+use mathlib.Core.Path.{◌≡◌, refl, sym, ap, ap₂, ◌∙◌}
 use Prim.Native.Nat.{ℕ, ◌+◌, ◌≤◌, ◌<◌}
-use native.Mathlib.Numerals.{add-one}
 use native.Mathlib.Omega.{arith}
 use borrow.Author.Rules.{rules}
 use mathlib.Core.Logic.{◌≢◌}
 use mathlib.Core.Bool.{Bool, true, false, ◌&&◌, cond}
 use Rattle.std.specs.List.{count_by}
 use Rattle.std.proofs.lemmas.List.Recursion.{is_count_by}
-use mathlib.Core.List.{List, [], ◌∷◌}
-use lib.ListN.{length, get_or, take}
-use lib.Seq.{take_all, take-suc}
+use mathlib.Core.List.{List}
+use lib.ListN.{length, get_or}
 use lib.Dec.{eqb}
 use borrow.Author.Tests.{eq-eqb, ne_eqb}
 use Rattle.lists.specs.Tests.{pick, all_below}
 use Rattle.lists.specs.Folds.{joined, total}
 use Rattle.lists.specs.Parts.{over}
-use Rattle.lists.proofs.FoldLaws.{total-append}
-use Rattle.lists.proofs.TestLaws.{pick-elim, go, stop, and_no, all-stop}
+use Rattle.lists.proofs.TestLaws.{go, stop, and_no, all-stop}
 use Rattle.rule.specs.Run.{allocations, ran, match_list, line_list}
 use Rattle.rule.specs.Calls.{Reply, counts, refused, each_once, run_checks, run_reply}
 use Rattle.rule.specs.Layout.{view, stored}

@@ -39,7 +39,12 @@ fn names_each_once(draw: &[u64], participants: u64) -> bool
 }
 
 // In a sound book.
-fn run_sound(book: &mut [u64], draw: &[u64], matches: &mut [u64], lines: &mut [u64]) -> Result<Counts, Refusal>
+fn run_sound(
+    book: &mut [u64],
+    draw: &[u64],
+    matches: &mut [u64],
+    lines: &mut [u64],
+) -> Result<Counts, Refusal>
     requires { SoundBook book.old }
     ensures { (told_run result, (book.new, matches.new, lines.new)) ≡ run_sound book.old draw.now matches.old lines.old }
 {
@@ -59,7 +64,12 @@ fn run_sound(book: &mut [u64], draw: &[u64], matches: &mut [u64], lines: &mut [u
     Ok(counts)
 }
 
-pub fn run(book: &mut [u64], draw: &[u64], matches: &mut [u64], lines: &mut [u64]) -> Result<Counts, Refusal>
+pub fn run(
+    book: &mut [u64],
+    draw: &[u64],
+    matches: &mut [u64],
+    lines: &mut [u64],
+) -> Result<Counts, Refusal>
     ensures { (told_run result, (book.new, matches.new, lines.new)) ≡ run_of book.old draw.now matches.old lines.old }
 {
     if !sound::sound(book) {

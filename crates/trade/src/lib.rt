@@ -52,7 +52,13 @@ fn write_trade(book: &mut [u64], seller: usize, buyer: usize, yen: u64)
 }
 
 // Between two participants of the day: the checks on the basket, the positions and the count, and then the writes.
-fn trade_between(book: &mut [u64], seller: u64, buyer: u64, basket: u64, yen: u64) -> Result<(), Refusal>
+fn trade_between(
+    book: &mut [u64],
+    seller: u64,
+    buyer: u64,
+    basket: u64,
+    yen: u64,
+) -> Result<(), Refusal>
     requires { Between book.old seller buyer basket yen }
     ensures { (told result, book.new) ≡ trade_between book.old seller buyer basket yen }
 {
@@ -77,7 +83,13 @@ fn trade_between(book: &mut [u64], seller: u64, buyer: u64, basket: u64, yen: u6
 }
 
 // In a sound book: the checks on the day, the parties and the amount come first.
-fn trade_sound(book: &mut [u64], seller: u64, buyer: u64, basket: u64, yen: u64) -> Result<(), Refusal>
+fn trade_sound(
+    book: &mut [u64],
+    seller: u64,
+    buyer: u64,
+    basket: u64,
+    yen: u64,
+) -> Result<(), Refusal>
     requires { SoundBook book.old }
     ensures { (told result, book.new) ≡ trade_sound book.old seller buyer basket yen }
 {
@@ -106,7 +118,13 @@ fn trade_sound(book: &mut [u64], seller: u64, buyer: u64, basket: u64, yen: u64)
     trade_between(book, seller, buyer, basket, yen)
 }
 
-pub fn trade(book: &mut [u64], seller: u64, buyer: u64, basket: u64, amount: Yen) -> Result<(), Refusal>
+pub fn trade(
+    book: &mut [u64],
+    seller: u64,
+    buyer: u64,
+    basket: u64,
+    amount: Yen,
+) -> Result<(), Refusal>
     ensures { (told result, book.new) ≡ trade_of book.old seller buyer basket amount.0 }
 {
     if !sound::sound(book) {

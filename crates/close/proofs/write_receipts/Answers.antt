@@ -1,4 +1,4 @@
-use Rattle.std.proofs.Common.{arith, ◌∙◌}
+use Rattle.std.proofs.Common.{arith}
 use Rattle.close.proofs.CloseLaws.{received_none, received_more, received-all}
 use Rattle.close.proofs.write_receipts.Goals as goal
 

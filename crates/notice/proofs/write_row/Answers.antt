@@ -1,4 +1,4 @@
-use Rattle.std.proofs.Common.{arith, length}
+use Rattle.std.proofs.Common.{arith}
 use Rattle.notice.proofs.NoticeLaws.{entered-none, entered-more, entered_all}
 use Rattle.lists.proofs.TableLaws.{filled-zeros}
 use Rattle.notice.proofs.write_row.Goals as goal

@@ -1,5 +1,5 @@
-use Rattle.std.proofs.Common.{arith, length, ap}
-use Rattle.opening.proofs.OpenLaws.{marked-none, marked_more, marked_all, marks-of, square-small}
+use Rattle.std.proofs.Common.{arith}
+use Rattle.opening.proofs.OpenLaws.{marked-none, marked_more, marked_all, marks-of}
 use Rattle.opening.proofs.copy_marks.Goals as goal
 
 pub loop-k-init : goal.loop-k-init

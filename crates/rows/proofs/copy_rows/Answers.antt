@@ -1,5 +1,4 @@
-use Rattle.std.proofs.Common.{arith}
-use Rattle.rows.proofs.CopyLaws.{copied_none, copied_more, copied_all, room-to, room-from, joined-room, joined-from, copied-joined}
+use Rattle.rows.proofs.CopyLaws.{copied_none, copied_more, copied_all, copied-joined}
 use Rattle.rows.proofs.copy_rows.Goals as goal
 
 pub returns-then-apart-m : goal.returns-then-apart-m
