@@ -1,98 +1,106 @@
 -- What a case's tests say is what the calls ask. Assumes nothing.
-use mathlib.Core.Path.{◌≡◌, refl, sym, ap, ◌∙◌}
-use mathlib.Core.List.{List, ◌++◌}
-use Prim.Native.Nat.{ℕ, ◌+◌, ◌*◌, ◌≤◌, ◌<◌}
+use mathlib.Core.Path.{◌≡◌, sym, ap, ◌∙◌, subst}
+use mathlib.Core.Bool.{Bool, true}
+use mathlib.Core.List.{List, []}
+use Prim.Native.Nat.{ℕ, zero, suc, ◌+◌, ◌*◌, ◌/◌, ◌≤◌, ◌<◌}
+use native.Mathlib.Nat.{mul-suc, le_refl}
 use native.Mathlib.Omega.{arith}
-use lib.ListN.{length, get_or, take, length-append, length-take}
-use lib.Seq.{get_or-take, length-take-le, take-append-le}
+use lib.ListN.{length, get_or, take, drop}
+use lib.Seq.{length-take-le, take_all, drop-drop}
+use Rattle.std.specs.Bool.{MatchBool}
+use Rattle.std.specs.List.{AllWithin}
+use Rattle.std.specs.Simd.{first_chunks}
 use Rattle.lists.specs.Tables.{zeros}
-use Rattle.lists.specs.Order.{ranked}
+use Rattle.lists.proofs.PartLaws.{block-get}
+use Rattle.lists.proofs.TableLaws.{take-zeros}
 use Rattle.rule.specs.Value.{Terms, value}
 use Rattle.rule.specs.Filling.{worth}
 use Rattle.value.specs.Rate.{rate}
-use Rattle.value.specs.Rated.{Rates, Termed, terms_in, Stocked, Summable}
-use Rattle.value.proofs.SumLaws.{Summed, summable, sum_more}
+use Rattle.value.specs.Rated.{Rates, terms_in, Stocked, Summable}
+use Rattle.value.proofs.SumLaws.{Summed, summable, sum_more, sum-all}
 use Rattle.value.proofs.TermLaws.{terms-length, terms-priced}
-use Rattle.filling.specs.Match.{Matchable}
-use Rattle.filling.proofs.OnceLaws.{order-named}
-use Rattle.ordering.specs.Ordered.{Ordered, Orderable}
-use Rattle.ranking.specs.Ranks.{Rankable}
-use Rattle.ranking.proofs.RankLaws.{length-ranked}
-use Rattle.filling_cases.specs.Ranges.{Issues, Fit}
+use Rattle.filling.specs.Match.{Supplied}
+use Rattle.filling.specs.Rows.{Named}
+use Rattle.filling.proofs.OnceLaws.{kept-named}
+use Rattle.ordering.specs.Ordered.{Ordered}
+use Rattle.filling_cases.specs.Cases.{Fit, Listed, Worth, Right}
 
-module _ {issues : ℕ} {terms : List ℕ} (day : Issues issues terms) where
-  pub termed : {rates : List ℕ} → ((i : ℕ) → i < issues → Fit (get_or terms (6 * i + 1) 0) (get_or terms (6 * i + 2) 0) (get_or terms (6 * i + 3) 0))
-      → length rates ≡ 32 → Termed issues terms rates
-  termed h l = record {
-    issues_most = day.most;
-    cells = day.cells;
-    places = l;
-    priced = λ i k. (h i k).priced;
-    quoted = λ i k. (h i k).quoted;
-  }
+-- ---- a case's terms and rows are what filling asks
 
-  -- the cells of the day's issues in a row
-  pub day-row : (l : List ℕ) → length l ≡ 32 → length (take issues l) ≡ issues
-  day-row l e = length-take-le issues l (omega (arith, day.most))
+module _ {terms notified usable used : List ℕ} {amount : ℕ} (right : Right terms notified usable used amount) where
+  abbrev n : ℕ
+  n = length usable
 
-  pub rankable : (notified : List ℕ) → length notified ≡ 32 → Rankable (take issues notified) (take issues (zeros 32))
-  rankable notified n = record { room = omega (arith, day-row notified n, day-row (zeros 32) refl) }
+  pub ordered_named : {issues : ℕ} {key may : ℕ → ℕ} {order : List ℕ} → issues ≡ n → Ordered issues key may order → Named n order
+  ordered_named {issues} {key} {may} {order} e o =
+      subst (λ (m : ℕ). Named m order) e (subst (Named issues) (sym o.names) (kept-named issues key o.live))
 
-  module _ (notified : List ℕ) (n : length notified ≡ 32) where
-    abbrev row : List ℕ
-    row = take issues notified
+  pub row-there : {m : ℕ} (row : List ℕ) → m ≡ n → length row ≡ 32 → length (take m row) ≡ n
+  row-there {m} row e l = length-take-le m row (omega (arith, right.most)) ∙ e
 
-    -- the ranking, and the cells behind it
-    module _ (ranks rest : List ℕ) (e : take (length row) ranks ≡ ranked (λ i. get_or row i 0) (length row)) where
-      long : issues ≤ length ranks
-      long = omega (arith, ap length e, length-ranked (λ i. get_or row i 0) (length row), length-take (length row) ranks, day-row notified n)
+  pub row-empty : {m : ℕ} → m ≡ n → take m (zeros 32) ≡ zeros n
+  row-empty {m} e = take-zeros m 32 (omega (arith, right.most)) ∙ ap zeros e
 
-      pub ranks-there : issues ≤ length (ranks ++ rest)
-      ranks-there = simp length-append (omega (arith, long))
+  pub case-rated : {m : ℕ} {cells rates : List ℕ} → cells ≡ terms → m ≡ n → Rates (terms_in m cells) rates → Rates (terms_in n terms) rates
+  case-rated {m} {cells} {rates} e l r = rw (e, l) at r
 
-      pub ranks-row : issues ≡ length (take issues (ranks ++ rest))
-      ranks-row = sym (length-take-le issues (ranks ++ rest) ranks-there)
+  pub stocked : {row rates : List ℕ} → row ≡ usable → Rates (terms_in n terms) rates → Stocked row rates
+  stocked e r = rw e (record { priced = terms-priced n terms r; issues_most = right.most; usable_most = right.usable_most })
 
-      pub orderable : (before : List ℕ) {order : List ℕ} → length before ≡ 32 → length order ≡ 32 → ((i : ℕ) → i < 32 → get_or notified i 0 ≤ 200_000_000)
-          → Orderable row (take issues before) (take issues (ranks ++ rest)) order
-      orderable before b o h =
-          let k : length row ≡ issues = day-row notified n in
-          record {
-            issues_most = omega (arith, k, day.most);
-            earlier = day-row before b ∙ sym k;
-            notified_most = λ i l. rw (get_or-take issues notified i 0 (omega arith)) (h i (omega (arith, day.most)));
-            ranks = take-append-le issues ranks rest long ∙ ap (λ (m : ℕ). take m ranks) (sym k) ∙ e;
-            places = o;
-          }
-
-  pub stocked : {usable rates : List ℕ} → length usable ≡ 32 → Rates (terms_in issues terms) rates → ((i : ℕ) → i < 32 → get_or usable i 0 ≤ 200_000_000) → Stocked issues usable rates
-  stocked w r u = record { priced = terms-priced issues terms r; issues_most = day.most; wide = w; usable_most = λ i k. u i (omega (arith, day.most)) }
-
-  pub matchable : {notified usable order rates : List ℕ} {all amount count : ℕ} {key may : ℕ → ℕ} → length notified ≡ 32 → length usable ≡ 32
-      → Rates (terms_in issues terms) rates → ((i : ℕ) → i < 32 → get_or usable i 0 ≤ 200_000_000) → Ordered (length (take issues notified)) key may order count
-      → ((ts : List Terms) → length ts ≡ issues → Rates ts rates → all ≡ worth ts (take issues usable))
-      → amount ≤ 10_000_000_000_000 → Matchable issues count terms notified usable order rates all amount (zeros 32)
-  matchable {notified} n w r u o g a = record {
-    notified_there = omega (arith, n, day.most);
-    all_is = g (terms_in issues terms) (terms-length issues terms) r;
-    issues_least = day.least;
-    issues_most = day.most;
-    cells = day.cells;
-    wide = w;
-    empty = refl;
+  pub supplied : {cells lots row listed order rates : List ℕ} {all : ℕ} → cells ≡ terms → lots ≡ notified → row ≡ usable → listed ≡ order
+      → length rates ≡ n → Rates (terms_in n terms) rates → Named n order → Worth usable rates all → Supplied cells rates lots row listed all
+  supplied e f g h there r o w = rw (e, f, g, h) (record {
+    issues_least = right.least;
+    issues_most = right.most;
+    cells = right.termed.cells;
+    rates_there = omega (arith, there);
+    notified_there = right.notified_there;
     rated = r;
-    usable_most = λ i k. u i (omega arith);
-    named =
-        let q = rw (day-row notified n) at o in
-        order-named issues _ _ q.live _ q.places day.most q.few q.cells;
-    amount_most = a;
-  }
+    usable_most = right.usable_most;
+    named = o;
+    all_is = w.summed (terms_in n terms) (terms-length n terms) r;
+  })
+
+pub worth-of : {row usable rates : List ℕ} {all : ℕ} → row ≡ usable → Worth row rates all → Worth usable rates all
+worth-of e w = rw e at w
 
 -- ---- what usable lots are worth, issue by issue
 
-module _ {issues : ℕ} {usable rates : List ℕ} (p : Stocked issues usable rates) {i : ℕ} (h : i < issues) where
-  pub value-asks : {sum : ℕ} → Summed issues usable rates sum i → Summable (get_or rates i 0) (get_or usable i 0) sum
+module _ {usable rates : List ℕ} (p : Stocked usable rates) {i : ℕ} (h : i < length usable) where
+  pub value-asks : {sum : ℕ} → Summed (length usable) usable rates sum i → Summable (get_or rates i 0) (get_or usable i 0) sum
   value-asks s = summable p.priced h p.issues_most (p.usable_most i h) s
 
-  pub summed-more : {sum next : ℕ} → ((t : Terms) → get_or rates i 0 ≡ rate t → next ≡ sum + value t (get_or usable i 0)) → Summed issues usable rates sum i → Summed issues usable rates next (i + 1)
-  summed-more e s = sum_more p.priced h (omega (arith, p.wide, p.issues_most)) (value-asks s) e s
+  pub summed-more : {sum next : ℕ} → ((t : Terms) → get_or rates i 0 ≡ rate t → next ≡ sum + value t (get_or usable i 0))
+      → Summed (length usable) usable rates sum i → Summed (length usable) usable rates next (i + 1)
+  summed-more e s = sum_more p.priced h h (value-asks s) e s
+
+pub worth_all : {usable rates : List ℕ} {sum i : ℕ} → Summed (length usable) usable rates sum i → length usable ≤ i → Worth usable rates sum
+worth_all {usable} s h = record { summed = λ ts e r. sum-all s h ts e r ∙ ap (worth ts) (take_all (length usable) usable (le_refl (length usable))) }
+
+-- ---- terms in pieces of six cells
+
+chunk : (n k : ℕ) (xs : List ℕ) (p : ℕ) → p < k → get_or (first_chunks n k xs) p [] ≡ take n (drop (n * p) xs)
+chunk n zero xs p l = absurd (omega arith)
+chunk n (suc k) xs zero l = let e : n * 0 ≡ 0 = omega arith in rw e
+chunk n (suc k) xs (suc p) l =
+    let e : n + n * p ≡ n * suc p = omega (arith, mul-suc n p) in
+    chunk n k (drop n xs) p (omega arith) ∙ ap (take n) (drop-drop (n * p) n xs ∙ ap (λ (o : ℕ). drop o xs) e)
+
+module _ (xs : List ℕ) {cs : List (List ℕ)} (e : cs ≡ first_chunks 6 (length xs / 6) xs) (size : length cs ≡ length xs / 6) where
+  cell_at : (i j : ℕ) → i < length xs / 6 → j < 6 → get_or (get_or cs i []) j 0 ≡ get_or xs (6 * i + j) 0
+  cell_at i j h k =
+      ap (λ (l : List ℕ). get_or l j 0) (ap (λ (l : List (List ℕ)). get_or l i []) e ∙ chunk 6 (length xs / 6) xs i h) ∙ block-get xs (6 * i) 6 j k
+
+  pub listed : {r : Bool} (X : Type 0) → 1 ≤ length cs → length cs ≤ 32 → MatchBool r (AllWithin Fit cs 0 (length cs)) X → r ≡ true → Listed xs
+  listed {r} X least most m t =
+      let all : AllWithin Fit cs 0 (length cs) = subst (λ (b : Bool). MatchBool b (AllWithin Fit cs 0 (length cs)) X) t m in
+      let fit : (i : ℕ) → i < length xs / 6 → Fit (get_or cs i []) = λ i h. all i [] (omega arith) (omega (arith, size)) in
+      record {
+        least = omega (arith, size);
+        most = omega (arith, size);
+        termed = record {
+          cells = omega arith;
+          priced = λ i h. rw (cell_at i 1 h (omega arith)) at (fit i h).priced;
+          quoted = λ i h. rw (cell_at i 1 h (omega arith), cell_at i 2 h (omega arith), cell_at i 3 h (omega arith)) at (fit i h).quoted;
+        };
+      }

@@ -9,13 +9,15 @@
 // and those that start with # count for nothing. A line that is no case is written after `no case: `.
 #![tactic(auto)]
 
-ghost use Rattle.std.specs.Prelude.{◌≡◌, true, ℕ, ◌+◌, ◌*◌, ◌≤◌, ◌<◌, List, length, get_or, take};
-ghost use Rattle.rule.specs.Value.{Terms};
-ghost use Rattle.rule.specs.Filling.{worth as worth_of};
-ghost use Rattle.value.specs.Rated.{Rates, Stocked};
-ghost use Rattle.filling_cases.specs.Ranges.{Issues, Fit};
+ghost use Rattle.std.specs.Prelude.{◌≡◌, ◌≤◌, true, length, IfSome};
+ghost use Rattle.std.specs.List.{All};
+ghost use Rattle.lists.specs.Tables.{zeros};
+ghost use Rattle.value.specs.Rated.{Stocked};
+ghost use Rattle.filling.specs.Rows.{Named};
+ghost use Rattle.filling_cases.specs.Cases.{Right, Fit, Listed, Worth};
 
-use filling::Filling;
+use filling::{Filling, Supply};
+use ordering::Order;
 use rule::{Lots, Yen};
 use std::alloc::Global;
 use std::io;
@@ -25,132 +27,91 @@ use value::Rate;
 // the bytes of standard input that there is room for, and one more
 const ROOM: u64 = 65_536;
 
-// The numbers of an issue's terms that a value is made of are in their ranges.
-fn fits(price: u64, coupon: u64, days: u64) -> bool
-    ensures { result ≡ true → Fit price coupon days }
-{
-    if price < 1000 {
-        return false;
-    }
-    if price > 30_000 {
-        return false;
-    }
-    if coupon > 20_000 {
-        return false;
-    }
-    days <= 366
+// A match that is to be filled: its numbers are in their ranges, and its rows are as long as there are issues.
+#[derive(Drop)]
+struct Case<'a> {
+    name: &'a [u8],
+    runs: u64,
+    preferential: bool,
+    basket: u64,
+    amount: Yen,
+    terms: Vec<u64>,
+    notified: Vec<u64>,
+    usable: Vec<u64>,
+    used: Vec<u64>,
+    ghost right: { Right terms.items notified.items usable.items used.items amount.0 },
 }
 
-fn all_fit(terms: &[u64], issues: usize) -> bool
-    requires { Issues issues terms.now }
-    ensures { result ≡ true → (i : ℕ) → i < issues → Fit (get_or terms.now (6 * i + 1) 0) (get_or terms.now (6 * i + 2) 0) (get_or terms.now (6 * i + 3) 0) }
-{
-    for i in 0..issues {
-        let at = 6 * i;
-        if !fits(terms[at + 1], terms[at + 2], terms[at + 3]) {
-            return false;
-        }
+impl Case<'_> {
+    // The issues as the match goes through them, worked out from the notified lots, as a run does.
+    fn order(&self) -> Order
+        ensures { Named (length self.now.usable.items) result.items }
+    {
+        let issues = self.usable.len();
+        let mut places = [0u64; 32];
+        let ranks = &mut places[..issues];
+        ranking::rank(self.notified.as_slice(), &mut *ranks);
+        let mut usable = [0u64; 32];
+        usable[..issues].copy_from_slice(self.usable.as_slice());
+        let mut order = Order::new();
+        ordering::issue_order(
+            self.preferential,
+            self.notified.as_slice(),
+            self.used.as_slice(),
+            ranks,
+            &usable,
+            &mut order,
+        );
+        order
     }
-    true
-}
 
-// Lots that a notice may have.
-fn all_within(lots: &[u64; 32]) -> bool
-    ensures { result ≡ true → (i : ℕ) → i < 32 → get_or lots.now i 0 ≤ 200_000_000 }
-{
-    for i in 0usize..32 {
-        if lots[i] > 200_000_000 {
-            return false;
-        }
+    fn fill(&self, lots: &mut [u64]) -> Filling
+        requires { lots.old ≡ zeros (length self.now.usable.items) }
+    {
+        let mut places = [0u64; 32];
+        let rates = &mut places[..self.usable.len()];
+        value::rates_of(self.terms.as_slice(), &mut *rates);
+        let all = worth(self.usable.as_slice(), &*rates);
+        let order = self.order();
+        let supply = Supply {
+            terms: self.terms.as_slice(),
+            rates,
+            notified: self.notified.as_slice(),
+            usable: self.usable.as_slice(),
+            order: order.as_slice(),
+            all,
+        };
+        supply.fill_match(self.runs, self.basket, self.preferential, self.amount, lots)
     }
-    true
-}
-
-fn show(rt: &HostRuntime, name: &[u8], filled: Filling, lots: &[u64]) -> io::Result<()> {
-    let covered = filled.covered;
-    let forced_lots = filled.forced_lots;
-    rt.write_all(name)?;
-    print!(rt; ": {} {} {} |", covered.0, filled.forced, forced_lots.0)?;
-    for count in lots {
-        print!(rt; " {count}")?;
-    }
-    rt.write_all(b"\n")
 }
 
 // What all usable lots are worth.
-fn worth(usable: &[u64; 32], rates: &[u64; 32], issues: usize) -> Yen
-    requires { Stocked issues usable.now rates.now }
-    ensures { (ts : List Terms) → length ts ≡ issues → Rates ts rates.now → result.0 ≡ worth_of ts (take issues usable.now) }
+fn worth(usable: &[u64], rates: &[u64]) -> Yen
+    requires stocked { Stocked usable.now rates.now }
+    requires rated { length rates.now ≡ length usable.now }
+    ensures { Worth usable.now rates.now result.0 }
 {
     let mut all = Yen(0);
-    for i in 0..issues {
-        all = value::add_value(all, Rate(rates[i]), Lots(usable[i]));
+    for (i, lots) in usable.iter().enumerate() {
+        all = Rate(rates[i]).add_value(all, Lots(*lots));
     }
     all
 }
 
-// Says whether the numbers are in their ranges: only then is a match filled. The order of the issues is worked out from the
-// notified lots, as a run does.
-fn case(
-    rt: &HostRuntime,
-    name: &[u8],
-    runs: u64,
-    preferential: bool,
-    basket: u64,
-    amount: u64,
-    issues: usize,
-    terms: &[u64],
-    notified: [u64; 32],
-    usable: [u64; 32],
-    used: [u64; 32],
-) -> bool
-    requires { Issues issues terms.now }
-{
-    if amount > 10_000_000_000_000 {
-        return false;
+fn show(rt: &HostRuntime, case: &Case) -> io::Result<()> {
+    let mut places = [0u64; 32];
+    let lots = &mut places[..case.usable.len()];
+    let Filling {
+        covered,
+        forced,
+        forced_lots,
+    } = case.fill(&mut *lots);
+    rt.write_all(case.name)?;
+    print!(rt; ": {} {forced} {} |", covered.0, forced_lots.0)?;
+    for count in lots {
+        print!(rt; " {count}")?;
     }
-    if !all_fit(terms, issues) {
-        return false;
-    }
-    if !all_within(&notified) {
-        return false;
-    }
-    if !all_within(&usable) {
-        return false;
-    }
-    let mut rates = [0u64; 32];
-    value::rates_of(terms, issues, &mut rates);
-    let mut ranks = [0u64; 32];
-    ranking::rank(&notified[..issues], &mut ranks[..issues]);
-    let mut order = [0u64; 32];
-    let count = ordering::issue_order(
-        preferential,
-        &notified[..issues],
-        &used[..issues],
-        &ranks[..issues],
-        &usable,
-        &mut order,
-    );
-    let all = worth(&usable, &rates, issues);
-    let mut lots = [0u64; 32];
-    let r = filling::fill_match(
-        runs,
-        preferential,
-        basket,
-        issues,
-        terms,
-        &notified[..],
-        &usable,
-        &order,
-        count,
-        &rates,
-        all,
-        Yen(amount),
-        &mut lots,
-    );
-    // what cannot be written is lost, as it is for the lines that are no case
-    let _ = show(rt, name, r, &lots[..issues]);
-    true
+    rt.write_all(b"\n")
 }
 
 // Numbers are decimal, up to 18 digits.
@@ -166,17 +127,47 @@ fn numbers(alloc: Global, part: &[u8]) -> Option<Vec<u64>> {
     Some(numbers)
 }
 
-// Lots by issue, of one issue or more; zeros after them.
-fn lots(alloc: Global, part: &[u8], issues: usize) -> Option<[u64; 32]>
-    requires { issues ≤ 32 }
+// Are the numbers that the value of an issue is made of in their ranges?
+fn fits(terms: &[u64; 6]) -> bool
+    ensures { result ≡ true → Fit terms.now }
 {
-    let numbers = numbers(alloc, part)?;
-    if numbers.is_empty() || numbers.len() > issues {
+    let [_, price, coupon, days, _, _] = *terms;
+    (1000..=30_000).contains(&price) && coupon <= 20_000 && days <= 366
+}
+
+// Six terms to an issue, of one issue to 32.
+fn terms(alloc: Global, part: &[u8]) -> Option<Vec<u64>>
+    ensures { IfSome result (λ terms. Listed terms.items) }
+{
+    let terms = numbers(alloc, part)?;
+    let (issues, rest) = terms.as_slice().as_chunks::<6>();
+    if !(1..=32).contains(&issues.len()) || !rest.is_empty() || !issues.iter().all(fits) {
         return None;
     }
-    let mut lots = [0u64; 32];
-    lots[..numbers.len()].copy_from_slice(numbers.as_slice());
-    Some(lots)
+    Some(terms)
+}
+
+// Lots by issue, of one issue or more; zeros after them.
+fn row(alloc: Global, part: &[u8], issues: usize) -> Option<Vec<u64>>
+    ensures { IfSome result (λ row. length row.items ≡ issues) }
+{
+    let mut row = numbers(alloc, part)?;
+    if !(1..=issues).contains(&row.len()) {
+        return None;
+    }
+    row.resize(issues, 0).ok()?;
+    Some(row)
+}
+
+// Lots that a notice may have.
+fn notice(alloc: Global, part: &[u8], issues: usize) -> Option<Vec<u64>>
+    ensures { IfSome result (λ row. (length row.items ≡ issues) × All (λ lots. lots ≤ 200_000_000) row.items) }
+{
+    let row = row(alloc, part, issues)?;
+    if row.iter().any(|lots| *lots > 200_000_000) {
+        return None;
+    }
+    Some(row)
 }
 
 fn preferential(sort: &[u8]) -> Option<bool> {
@@ -194,45 +185,47 @@ fn basket(word: &[u8]) -> Option<u64> {
     }
 }
 
-// Fills the match of a line; `None`, where the line is no case.
-fn read(rt: &HostRuntime, line: &[u8]) -> Option<()> {
-    let alloc = rt.alloc();
+// The amount of a match.
+fn amount(word: &[u8]) -> Option<Yen>
+    ensures { IfSome result (λ amount. amount.0 ≤ 10_000_000_000_000) }
+{
+    let amount = number(word)?;
+    (amount <= 10_000_000_000_000).then_some(Yen(amount))
+}
+
+// The case of a line; `None`, where the line is no case.
+fn read(alloc: Global, line: &[u8]) -> Option<Case> {
     let (name, text) = words::split_once(line, b':')?;
     let mut parts = text.split(|byte| *byte == b'|');
     let head = words::split(alloc, parts.next()?, b" ").ok()?;
-    let [runs, sort, letter, amount] = head.as_slice() else {
+    let [runs, sort, letter, yen] = head.as_slice() else {
         return None;
     };
-    let terms = numbers(alloc, parts.next()?)?;
-    if terms.is_empty() || terms.len() > 192 || terms.len() % 6 != 0 {
-        return None;
-    }
+    let terms = terms(alloc, parts.next()?)?;
     let issues = terms.len() / 6;
-    let notified = lots(alloc, parts.next()?, issues)?;
-    let usable = lots(alloc, parts.next()?, issues)?;
-    let used = lots(alloc, parts.next()?, issues)?;
+    let case = Case {
+        name,
+        runs: number(runs)?,
+        preferential: preferential(sort)?,
+        basket: basket(letter)?,
+        amount: amount(yen)?,
+        terms,
+        notified: notice(alloc, parts.next()?, issues)?,
+        usable: notice(alloc, parts.next()?, issues)?,
+        used: row(alloc, parts.next()?, issues)?,
+    };
     if parts.next().is_some_and(|part| !part.is_empty()) {
         return None;
     }
-    let is_case = case(
-        rt,
-        name,
-        number(runs)?,
-        preferential(sort)?,
-        basket(letter)?,
-        number(amount)?,
-        issues,
-        terms.as_slice(),
-        notified,
-        usable,
-        used,
-    );
-    is_case.then_some(())
+    Some(case)
 }
 
 fn answer(rt: &HostRuntime, line: &[u8]) -> io::Result<()> {
-    if line.is_empty() || line.starts_with(b"#") || read(rt, line).is_some() {
+    if line.is_empty() || line.starts_with(b"#") {
         return Ok(());
+    }
+    if let Some(case) = read(rt.alloc(), line) {
+        return show(rt, &case);
     }
     rt.write_all(b"no case: ")?;
     rt.write_all(line)?;
@@ -248,6 +241,7 @@ fn main(rt: HostRuntime) {
         return;
     }
     for line in text.as_slice().split(|byte| *byte == b'\n') {
+        // what cannot be written is lost
         let _ = answer(&rt, line);
     }
 }

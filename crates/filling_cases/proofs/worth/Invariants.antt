@@ -1,10 +1,7 @@
 -- `filling_cases::worth` meets its contract. Assumes nothing.
-use Rattle.std.proofs.Common.{◌-◌}
+use Rattle.std.proofs.Common.{length}
 use Rattle.value.proofs.SumLaws.{Summed}
 use Rattle.filling_cases.proofs.worth.Given as goal
 
 abbrev pub invariant-loop-i : goal.invariant-loop-i
-invariant-loop-i l = Summed l.issues l.usable l.rates l.all.0 l.i
-
-abbrev pub decreases-loop-i : goal.decreases-loop-i
-decreases-loop-i l = l.issues - l.i
+invariant-loop-i l = Summed (length l.usable) l.usable l.rates l.all.0 l.i
