@@ -1,11 +1,11 @@
 -- Laws of what a match may use, and of filling it. Assumes nothing.
 use mathlib.Core.Path.{◌≡◌, sym, ap, ap₂, ◌∙◌, subst}
-use mathlib.Core.List.{List, ◌++◌}
+use mathlib.Core.List.{List}
 use Prim.Native.Nat.{ℕ, ◌+◌, ◌-◌, ◌*◌, ◌≤◌, ◌<◌}
 use native.Mathlib.Decide.{ℕ_discrete}
 use native.Mathlib.Omega.{arith}
 use lib.ListN.{length, get_or, set, take, drop, length-set}
-use lib.Seq.{ext_get_or, take-append_seam, length-take-le, take_all, get_or-take, get_or-set_same, get_or-set_other}
+use lib.Seq.{ext_get_or, length-take-le, get_or-take, get_or-set_same, get_or-set_other}
 use Rattle.lists.specs.Tables.{table, zeros}
 use Rattle.lists.specs.Parts.{block}
 use Rattle.lists.proofs.TableLaws.{length-table, get_or-table}
@@ -112,7 +112,7 @@ module _ {b : List ℕ} {e : Entry} {rates usable : List ℕ} {all : ℕ} {order
 
   pub fill_is : (k : ℕ) {listed : List ℕ} {f : Filling} {lots' : List ℕ} → listed ≡ order
       → FilledAs (filled (get_or b 2 0) e.preferential (terms_in (length (take n usable)) (block b terms_at 192)) (take n usable) listed
-        (forced_issue k (terms_in (length (take n usable)) (block b terms_at 192)) (take (from + n - from) (drop from b))) e.amount.0) f lots'
+      (forced_issue k (terms_in (length (take n usable)) (block b terms_at 192)) (take (from + n - from) (drop from b))) e.amount.0) f lots'
       → FilledAs (filled_in b k e usable order) f lots'
   unfolding filled_in
   fill_is k {listed} {f} {lots'} o q =

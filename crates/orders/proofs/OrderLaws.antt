@@ -8,15 +8,15 @@ use Prim.Native.Nat.{ℕ, ◌+◌, ◌-◌, ◌*◌, ◌≤◌, ◌<◌}
 use native.Mathlib.Nat.{le_refl, not-suc-le-zero}
 use native.Mathlib.Decide.{ℕ_discrete}
 use native.Mathlib.Omega.{arith}
-use lib.ListN.{length, get_or, take, drop, length-append, length-drop}
-use lib.Seq.{ext_get_or, take_all, take-append_seam}
+use lib.ListN.{length, get_or, take, drop}
+use lib.Seq.{ext_get_or, take_all}
 use lib.Dec.{eqb}
 use borrow.Author.Tests.{eqb-false}
 use borrow.Rule.Slice.PartMut.{put_mid}
-use Rattle.lists.specs.Tables.{table, zeros}
+use Rattle.lists.specs.Tables.{table}
 use Rattle.lists.specs.Order.{ranked}
 use Rattle.lists.specs.Parts.{block}
-use Rattle.lists.proofs.TableLaws.{length-table, length-zeros, get_or-table}
+use Rattle.lists.proofs.TableLaws.{length-table, get_or-table}
 use Rattle.lists.proofs.PartLaws.{block-get, length-block, blocks-agree, rows_apart, part-is, part_length}
 use Rattle.lists.proofs.OrderLaws.{ranked-alike}
 use Rattle.rule.specs.Layout.{notices_at}

@@ -1,5 +1,5 @@
 -- `matched::fill_next` meets its contract. Assumes nothing.
-use Rattle.matched.proofs.FillLaws.{fill-supplied, fill-asks, fill_is}
+use Rattle.matched.proofs.FillLaws.{fill_is}
 use Rattle.matched.proofs.fill_next.Goals as goal
 
 pub returns : goal.returns
