@@ -90,26 +90,6 @@ module _ {b : List ℕ} {e : Entry} {rates usable : List ℕ} {all : ℕ} {order
   usable-long : length (take n usable) ≡ n
   usable-long = length-take-le n usable (omega (arith, h.wide, h.sized.issues))
 
-  usable-at : (i : ℕ) → i < n → get_or (take n usable) i 0 ≡ get_or usable i 0
-  usable-at i l = get_or-take n usable i 0 l
-
-  pub fill-supplied : {listed : List ℕ} → length rates ≡ 32 → listed ≡ order
-      → Supplied (block b terms_at 192) rates (take (from + n - from) (drop from b)) (take n usable) listed all
-  fill-supplied r o = rw o (record {
-    issues_least = omega (arith, usable-long, h.sized.some);
-    issues_most = omega (arith, usable-long, h.sized.issues);
-    cells = omega (arith, usable-long, length-block b terms_at 192 (omega (arith, h.sized.cells)), h.sized.issues);
-    rates_there = omega (arith, usable-long, h.sized.issues, r);
-    notified_there = part_length b from n notices-fit ∙ sym usable-long;
-    rated = rw usable-long h.rated;
-    usable_most = λ i l. omega (arith, usable-at i (omega (arith, usable-long)), h.most i (omega (arith, usable-long)));
-    named = rw usable-long h.named;
-    all_is = rw usable-long h.worth_is;
-  })
-
-  pub fill-asks : Asked (length (take n usable)) e.amount.0 lots
-  fill-asks = record { amount_most = h.amount; empty = h.empty ∙ ap zeros (sym usable-long) }
-
   pub fill_is : (k : ℕ) {listed : List ℕ} {f : Filling} {lots' : List ℕ} → listed ≡ order
       → FilledAs (filled (get_or b 2 0) e.preferential (terms_in (length (take n usable)) (block b terms_at 192)) (take n usable) listed
       (forced_issue k (terms_in (length (take n usable)) (block b terms_at 192)) (take (from + n - from) (drop from b))) e.amount.0) f lots'

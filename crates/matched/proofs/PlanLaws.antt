@@ -16,7 +16,7 @@ use Rattle.matching.proofs.CallerLaws.{sound-basket, marks-of-book}
 use Rattle.orders.specs.Sizes.{participants_in}
 use Rattle.matched.specs.Filled.{positions_in, plan_in, PlanRows}
 
-module _ (b draw : List ℕ) (k : ℕ) (owed due : List ℕ) (made : ArrayVec Entry) (h : PlanRows b draw k owed due made) where
+module _ (b draw : List ℕ) (k : ℕ) (owed due : List ℕ) (h : PlanRows b draw k owed due) where
   abbrev at : ℕ
   at = positions_at + 12 * k
 
@@ -48,11 +48,11 @@ module _ (b draw : List ℕ) (k : ℕ) (owed due : List ℕ) (made : ArrayVec En
     due-is : due' ≡ map minus (positions_in b k)
     due-is = v ∙ ap (λ (m : ℕ). map minus (block b at m)) h.owned
 
-    pub plan-asks : Basket (take (pairs + 144 - pairs) (drop pairs b)) draw owed' due' made
+    pub plan-asks : Basket (take (pairs + 144 - pairs) (drop pairs b)) draw owed' due'
     plan-asks =
         rw (owed-is, due-is)
-        (sound-basket n _ draw (positions_in b k) made (length-block b at n positions-fit) h.plannable.sized.participants
-        (omega (arith, part_length b pairs 144 pairs_fit, h.plannable.sized.participants)) h.plannable.drawn h.plannable.empty)
+        (sound-basket n _ draw (positions_in b k) (length-block b at n positions-fit) h.plannable.sized.participants
+        (omega (arith, part_length b pairs 144 pairs_fit, h.plannable.sized.participants)) h.plannable.drawn)
 
     pub plan-is : {runs : ℕ} {made' : ArrayVec Entry} → runs ≡ get_or b 2 0
         → Planned (plan runs (pair_marks (take (pairs + 144 - pairs) (drop pairs b)) (length owed')) draw owed' due') made'

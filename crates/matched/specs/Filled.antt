@@ -28,15 +28,14 @@ unfoldable pub plan_in : List ℕ → List ℕ → ℕ → List Match
 plan_in b draw k =
     plan (get_or b 2 0) (grid b (pairs_at + 144 * k) 12 (participants_in b) (participants_in b)) draw (map plus (positions_in b k)) (map minus (positions_in b k))
 
-pub record Plannable (b draw : List ℕ) (k : ℕ) (plan : ArrayVec Entry) : Type 0 where
+pub record Plannable (b draw : List ℕ) (k : ℕ) : Type 0 where
   pub sized : Sized b
-  pub empty : plan.items ≡ []
   pub basket : k < 7
   pub drawn : EachOnce draw (participants_in b)
 
 -- and rows for the participants
-pub record PlanRows (b draw : List ℕ) (k : ℕ) (owed due : List ℕ) (plan : ArrayVec Entry) : Type 0 where
-  pub plannable : Plannable b draw k plan
+pub record PlanRows (b draw : List ℕ) (k : ℕ) (owed due : List ℕ) : Type 0 where
+  pub plannable : Plannable b draw k
   pub owing : length owed ≡ participants_in b
   pub owned : length due ≡ participants_in b
 

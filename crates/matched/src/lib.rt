@@ -21,7 +21,7 @@ fn plan_rows(
     due: &mut [u64],
     plan: &mut Plan,
 )
-    requires { PlanRows book.now draw.now basket owed.old due.old plan.old }
+    requires { PlanRows book.now draw.now basket owed.old due.old }
     ensures { Planned (plan_in book.now draw.now basket) plan.new }
 {
     let positions = layout::POSITIONS + layout::MOST_PARTICIPANTS * basket;
@@ -40,9 +40,9 @@ fn plan_rows(
     );
 }
 
-// The matches of the basket, into an empty plan.
+// The matches of the basket.
 pub fn plan_basket(book: &[u64], basket: usize, draw: &[u64], plan: &mut Plan)
-    requires { Plannable book.now draw.now basket plan.old }
+    requires { Plannable book.now draw.now basket }
     ensures { Planned (plan_in book.now draw.now basket) plan.new }
 {
     let participants = book[layout::PARTICIPANTS] as usize;

@@ -36,16 +36,15 @@ signed-one-zero (c ∷ cs) zero = one_of c
 signed-one-zero (c ∷ cs) (suc p) = signed-one-zero cs p
 
 -- n participants, their positions in the basket, and a right draw
-pub sound-basket : (n : ℕ) (marks draw positions : List ℕ) (made : ArrayVec Entry) → length positions ≡ n → n ≤ 12 → 12 * n ≤ length marks → EachOnce draw n
-    → made.items ≡ [] → Basket marks draw (map plus positions) (map minus positions) made
-sound-basket n marks draw positions made e h k r c =
+pub sound-basket : (n : ℕ) (marks draw positions : List ℕ) → length positions ≡ n → n ≤ 12 → 12 * n ≤ length marks → EachOnce draw n
+    → Basket marks draw (map plus positions) (map minus positions)
+sound-basket n marks draw positions e h k r =
     let o : length (map plus positions) ≡ n = length-map positions plus ∙ e in
     let u : length (map minus positions) ≡ n = length-map positions minus ∙ e in
     record {
       sizes = record { same = u ∙ sym o; few = omega arith; marked = omega arith };
       one_zero = signed-one-zero positions;
       receivers = every_map (λ p. p < n) (λ p. p < length (map plus positions)) (λ p l. omega arith) draw r.nobody_else;
-      empty = c;
     }
 
 -- the marks of a basket, lent as the 144 cells at its place in the book

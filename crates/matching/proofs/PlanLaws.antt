@@ -27,7 +27,7 @@ turns_from draw (d ∷ ds) o u before made =
     ap (λ (ms : List Match). foldl (turn draw) (record { owed = its.owed; due = its.due; made = ms }) ds) (append_assoc before made (sorted (λ m. m.amount) its.made))
     ∙ turns_from draw ds its.owed its.due before (made ++ sorted (λ m. m.amount) its.made)
 
-module _ (runs : ℕ) (marks draw : List ℕ) (s : Left) (b : Basket marks draw s.owed.now s.due.now s.made.now) where
+module _ (runs : ℕ) (marks draw : List ℕ) (s : Left) (b : Basket marks draw s.owed.now s.due.now) where
   abbrev pairs : rule.Left
   pairs = preferential runs (pair_marks marks (length s.owed.now)) s.owed.now s.due.now
 
@@ -45,8 +45,8 @@ module _ (runs : ℕ) (marks draw : List ℕ) (s : Left) (b : Basket marks draw 
         b.sizes.few,
       )
 
-  pub plan-asks : Preferring runs marks s
-  plan-asks = record { sizes = b.sizes; empty = b.empty; room = omega (arith, all_fit) }
+  pub plan-asks : s.made.now.items ≡ [] → Preferring runs marks s
+  plan-asks e = record { sizes = b.sizes; empty = e; room = omega (arith, all_fit) }
 
   -- the pairs are matched
   module _ {t : Left} (e : left_of t ≡ pairs) (same : SameBuffers s t) where

@@ -82,9 +82,8 @@ pub record Preferring (runs : ℕ) (marks : List ℕ) (s : Left) : Type 0 where
   pub empty : s.made.now.items ≡ []
   pub room : Room (preferential runs (pair_marks marks (length s.owed.now)) s.owed.now s.due.now)
 
--- a basket: each participant owes or has due and not both, the draw names participants, and the plan is empty
-pub record Basket (marks draw owed due : List ℕ) (plan : ArrayVec Entry) : Type 0 where
+-- a basket: each participant owes or has due and not both, and the draw names participants
+pub record Basket (marks draw owed due : List ℕ) : Type 0 where
   pub sizes : Sizes marks owed due
   pub one_zero : OneZero owed due
   pub receivers : Every (λ p. p < length owed) draw
-  pub empty : plan.items ≡ []

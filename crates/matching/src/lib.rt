@@ -138,7 +138,7 @@ impl Left<'_> {
     }
 }
 
-// The matches of a basket in the order of filling, into an empty plan. The positions are used up.
+// The matches of a basket in the order of filling: what stood in the plan goes. The positions are used up.
 pub fn plan(
     runs: u64,
     marks: &[u64],
@@ -147,9 +147,10 @@ pub fn plan(
     due: &mut [u64],
     plan: &mut Plan,
 )
-    requires { Basket marks.now draw.now owed.old due.old plan.old }
+    requires { Basket marks.now draw.now owed.old due.old }
     ensures { Planned (plan_of runs (pair_marks marks.now (length owed.old)) draw.now owed.old due.old) plan.new }
 {
+    plan.clear();
     let mut left = Left {
         owed,
         due,

@@ -47,10 +47,9 @@ module _ (k : ℕ) (b draw rates allocable orders used' matches lines : List ℕ
 
   -- ---- the plan
 
-  pub plan-asked : (made : ArrayVec Entry) → made.items ≡ [] → Plannable b draw k made
-  plan-asked made empty = record {
+  pub plan-asked : Plannable b draw k
+  plan-asked = record {
     sized = sized-kept b₀ sound done b booked;
-    empty = empty;
     basket = s.begun.basket;
     drawn = subst (EachOnce draw) (sym (participants-kept b₀ sound done b booked)) s.begun.start.once;
   }

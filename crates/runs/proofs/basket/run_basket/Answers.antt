@@ -8,7 +8,7 @@ pub bounds-book-1 : goal.bounds-book-1
 bounds-book-1 c = omega (arith, c.requires.begun.running.booked.size)
 
 pub plan_basket-requires : goal.plan_basket-requires
-plan_basket-requires c = plan-asked _ _ _ _ _ _ _ _ _ _ _ c.requires _ c.new-plan.ensures
+plan_basket-requires c = plan-asked _ _ _ _ _ _ _ _ _ _ _ c.requires
 
 pub slice_bounds-inside-end : goal.slice_bounds-inside-end
 slice_bounds-inside-end c = issues_most _ _ _ _ _ _ _ _ _ _ _ c.requires
