@@ -6,15 +6,14 @@ use native.Mathlib.Decide.{ℕ_discrete}
 use native.Mathlib.Omega.{arith}
 use lib.ListN.{length, get_or, set, take, drop, length-set}
 use lib.Seq.{ext_get_or, length-take-le, get_or-take, get_or-set_same, get_or-set_other}
-use Rattle.lists.specs.Tables.{table, zeros}
+use Rattle.lists.specs.Tables.{table}
 use Rattle.lists.specs.Parts.{block}
 use Rattle.lists.proofs.TableLaws.{length-table, get_or-table}
-use Rattle.lists.proofs.PartLaws.{block-get, length-block, part-is, part_length}
+use Rattle.lists.proofs.PartLaws.{block-get, part-is, part_length}
 use Rattle.rule.specs.Filling.{Filled, filled, forced_issue}
 use Rattle.rule.specs.Layout.{terms_at, notices_at}
 use Rattle.value.proofs.TermLaws.{terms-length, terms-priced}
-use Rattle.filling.specs.Rows.{Asked}
-use Rattle.filling.specs.Match.{Supplied, FilledAs}
+use Rattle.filling.specs.Match.{FilledAs}
 use Rattle.value.specs.Rated.{terms_in}
 use Rattle.filling.specs.declared.Filling.{Filling}
 use Rattle.matching.specs.declared.Match.{Match as Entry}

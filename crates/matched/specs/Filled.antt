@@ -1,10 +1,9 @@
 -- One match of a basket: what planning, filling and writing it ask and leave. Assumes nothing.
-use Rattle.std.specs.Prelude.{◌≡◌, ◌≢◌, List, map, ℕ, ◌+◌, ◌*◌, ◌≤◌, ◌<◌, [], length, get_or, set, take}
+use Rattle.std.specs.Prelude.{◌≡◌, ◌≢◌, List, map, ℕ, ◌+◌, ◌*◌, ◌≤◌, ◌<◌, length, get_or, set, take}
 use Rattle.lists.specs.Tables.{table, zeros}
 use Rattle.lists.specs.Parts.{block, grid, over}
 use Rattle.rule.specs.Value.{Terms}
 use Rattle.rule.specs.Matching.{Match, plan}
-use Rattle.arrayvec.specs.ArrayVec.{ArrayVec}
 use Rattle.matching.specs.declared.Match.{Match as Entry}
 use Rattle.rule.specs.Filling.{worth, Filled, filled, forced_issue}
 use Rattle.rule.specs.Layout.{book_length, terms_at, pairs_at, positions_at, notices_at, plus, minus}
