@@ -22,6 +22,7 @@ fn returned(answer: Result<(), Refusal>) -> u64
     }
 }
 
+// A run's is not the same function at another type: what is accepted has a number of its own, as `told_run` and `told` have it.
 fn returned_run(answer: Result<Counts, Refusal>) -> u64
     requires { Fits (told_run answer) }
     ensures { result ≡ returned (told_run answer) }

@@ -1,25 +1,35 @@
 -- Laws that the proofs of a trade cite. Assumes nothing.
-use Rattle.std.proofs.Common.{◌≡◌, ℕ, ◌+◌, ◌-◌, ◌*◌, ◌%◌, ◌^◌, ◌<◌, ◌≤◌, true, false, ltb, List, get_or, set, sym, refl, ap, ◌∙◌, ap₂, mod-lt, arith, lit<, le-ltb, lt-ltb}
+use Rattle.std.proofs.Common.{◌≡◌, ℕ, ◌+◌, ◌-◌, ◌*◌, ◌%◌, ◌<◌, ◌≤◌, true, false, ltb, List, get_or, sym, refl, ap, ◌∙◌, ap₂, mod-lt, min, arith, lit<, le-ltb, lt-ltb}
 use Rattle.lists.specs.Tables.{cell}
 use Rattle.rule.specs.Day.{traded}
 use Rattle.rule.specs.Calls.{afterwards}
 use Rattle.rule.specs.Sound.{tradable, position_limit, trade_limit}
 use Rattle.rule.specs.Layout.{positions_at, plus, minus, view, stored}
-use Rattle.rule.proofs.LayoutLaws.{Readable}
+use Rattle.rule.proofs.LayoutLaws.{Readable, plus-signed, minus-signed}
 use Rattle.rule.proofs.BookLaws.{SoundBook, view-owed, view-due}
 use Rattle.rule.proofs.TradeLaws.{Tradeable}
 use Rattle.rule.proofs.TradeStored.{raise-cell, lower-cell, trade-stored}
 use Rattle.trade.specs.Positions.{Movable, moved_of}
 use Rattle.trade.specs.Checked.{Between}
 
--- the number that yen added to wraps back to c
-pub taken : (c r x : ℕ) → c < 2 ^ 64 → r < 2 ^ 64 → x ≤ 1000000000000 → (r + x) % 2 ^ 64 ≡ c → r ≡ (c + (18446744073709551616 - x)) % 18446744073709551616
-taken c r x h q l e = omega arith
+-- ---- a position after yen were added to it or taken from it, as a cell
 
-pub moved : (b : List ℕ) (seller buyer yen sold bought : ℕ) → sold ≡ (get_or b seller 0 + yen) % 2 ^ 64 → bought ≡ (get_or b buyer 0 + (18446744073709551616 - yen)) % 18446744073709551616
-    → set (set (set b seller sold) buyer bought) 3 (get_or b 3 0 + 1) ≡ moved_of b seller buyer yen
-unfolding moved_of
-moved b seller buyer yen sold bought es eb = ap₂ (λ (s t : ℕ). set (set (set b seller s) buyer t) 3 (get_or b 3 0 + 1)) es eb
+one_side : (a b : ℕ) → min (a - b) (b - a) ≡ 0
+one_side a b = omega arith
+
+sold_of : (c x : ℕ) → c < 18446744073709551616 → Movable c x → plus ((c + x) % 18446744073709551616) ≡ plus c + x - minus c
+sold_of c x w m =
+    ap plus (sym (raise-cell c x w m.owed m.due m.most))
+    ∙ plus-signed (record { one = one_side (plus c + x) (minus c); out = omega (arith, m.owed, m.most); back = omega (arith, m.due) })
+
+-- the number that yen are added to wraps back to c
+back : (c x : ℕ) → c < 18446744073709551616 → x ≤ 1000000000000 → ((c + (18446744073709551616 - x)) % 18446744073709551616 + x) % 18446744073709551616 ≡ c
+back c x a m = omega arith
+
+bought_of : (c x : ℕ) → c < 18446744073709551616 → Movable c x → minus ((c + (18446744073709551616 - x)) % 18446744073709551616) ≡ minus c + x - plus c
+bought_of c x w m =
+    ap minus (sym (lower-cell c _ x w (mod-lt _ (lit< tt)) m.owed m.due m.most (back c x w m.most)))
+    ∙ minus-signed (record { one = one_side (plus c) (minus c + x); out = omega (arith, m.owed); back = omega (arith, m.due, m.most) })
 
 -- ---- a position of a sound book
 
@@ -40,12 +50,13 @@ module _ (b : List ℕ) (s : SoundBook b) (k p at yen : ℕ) (basket : k < 7) (p
   pub movable : yen ≤ 1000000000000 → Movable c yen
   movable l = record { owed = omega (arith, owed-is, s.day.owed k p basket of_day); due = omega (arith, due-is, s.day.due k p basket of_day); most = l }
 
-  -- what the code works out of the cell is what the check table asks
-  pub sold-is : (r : ℕ) → r ≡ plus c + yen - minus c → r ≡ afterwards (cell (view b).state.owed k p) (cell (view b).state.due k p) yen
-  sold-is r e = e ∙ ap₂ (λ (o d : ℕ). o + yen - d) (sym owed-is) (sym due-is)
+  -- the sides of the cells that the code writes are what the check table asks
+  pub sold-is : yen ≤ 1000000000000 → (r : ℕ) → r ≡ plus ((c + yen) % 18446744073709551616) → r ≡ afterwards (cell (view b).state.owed k p) (cell (view b).state.due k p) yen
+  sold-is l r e = e ∙ sold_of c yen (s.readable.words at) (movable l) ∙ ap₂ (λ (o d : ℕ). o + yen - d) (sym owed-is) (sym due-is)
 
-  pub bought-is : (r : ℕ) → r ≡ minus c + yen - plus c → r ≡ afterwards (cell (view b).state.due k p) (cell (view b).state.owed k p) yen
-  bought-is r e = e ∙ ap₂ (λ (o d : ℕ). d + yen - o) (sym owed-is) (sym due-is)
+  pub bought-is : yen ≤ 1000000000000 → (r : ℕ) → r ≡ minus ((c + (18446744073709551616 - yen)) % 18446744073709551616)
+      → r ≡ afterwards (cell (view b).state.due k p) (cell (view b).state.owed k p) yen
+  bought-is l r e = e ∙ bought_of c yen (s.readable.words at) (movable l) ∙ ap₂ (λ (o d : ℕ). d + yen - o) (sym owed-is) (sym due-is)
 
 -- a number that is known by another name is above a limit, or not
 pub over : (limit r t : ℕ) → r ≡ t → limit < r → ltb limit t ≡ true
@@ -81,9 +92,6 @@ module _ (b : List ℕ) (s : SoundBook b) (seller buyer k yen : ℕ) (h : Tradea
       (sym (rw (view-owed b r k seller h.basket sells, view-due b r k seller h.basket sells) (raise-cell cs yen (r.words _) ms.owed ms.due l)))
       (sym (rw (view-owed b r k buyer h.basket buys, view-due b r k buyer h.basket buys) (lower-cell cb _ yen (r.words _) (mod-lt _ (lit< tt)) mb.owed mb.due l (back cb yen (r.words _) l))))
       (ap (λ (n : ℕ). n + 1) (sym count-is)))
-    where
-      back : (c x : ℕ) → c < 18446744073709551616 → x ≤ 1000000000000 → ((c + (18446744073709551616 - x)) % 18446744073709551616 + x) % 18446744073709551616 ≡ c
-      back c x a m = omega arith
 
 module _ (b : List ℕ) (seller buyer k yen : ℕ) (w : Between b seller buyer k yen) where
   tradeable : tradable k (view b).given.terms ≡ true

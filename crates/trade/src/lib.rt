@@ -1,11 +1,10 @@
 // A trade: "adds its yen to the seller's position in a basket and takes them from the buyer's".
 #![tactic(auto)]
 
-ghost use Rattle.std.specs.Prelude.{◌≡◌, ◌+◌, ◌-◌, ◌*◌, ◌<◌};
-ghost use Rattle.rule.specs.Layout.{plus, minus, trade_of};
+ghost use Rattle.std.specs.Prelude.{◌≡◌, ◌+◌, ◌*◌, ◌<◌};
+ghost use Rattle.rule.specs.Layout.{trade_of};
 ghost use Rattle.rule.proofs.BookLaws.{SoundBook};
 ghost use Rattle.rule.specs.Answers.{told};
-ghost use Rattle.trade.specs.Positions.{Movable, Tradable, moved_of};
 ghost use Rattle.trade.specs.Checked.{Between, trade_between, trade_sound};
 
 use book::{limits, sound};
@@ -20,35 +19,6 @@ fn place(basket: u64, participant: u64) -> usize
     ensures { result ≡ 1972 + 12 * basket + participant }
 {
     layout::POSITIONS + layout::MOST_PARTICIPANTS * (basket as usize) + (participant as usize)
-}
-
-// What is owed after yen were added to a position.
-fn owed_after(cell: u64, yen: u64) -> u64
-    requires { Movable cell yen }
-    ensures { result ≡ plus cell + yen - minus cell }
-{
-    (sound::owed_of(cell) + yen).saturating_sub(sound::due_of(cell))
-}
-
-// What is due after yen were taken from it.
-fn due_after(cell: u64, yen: u64) -> u64
-    requires { Movable cell yen }
-    ensures { result ≡ minus cell + yen - plus cell }
-{
-    (sound::due_of(cell) + yen).saturating_sub(sound::owed_of(cell))
-}
-
-// The writes alone: two positions, and the count.
-fn write_trade(book: &mut [u64], seller: usize, buyer: usize, yen: u64)
-    requires { Tradable book.old seller buyer yen }
-    ensures { book.new ≡ moved_of book.old seller buyer yen }
-{
-    let sold = std::num::wrapping_add_u64(book[seller], yen);
-    let bought = std::num::wrapping_sub_u64(book[buyer], yen);
-    let count = book[layout::TRADES] + 1;
-    book[seller] = sold;
-    book[buyer] = bought;
-    book[layout::TRADES] = count;
 }
 
 // Between two participants of the day: the checks on the basket, the positions and the count, and then the writes.
@@ -67,18 +37,21 @@ fn trade_between(
     }
     let at_seller = place(basket, seller);
     let at_buyer = place(basket, buyer);
-    let sold = owed_after(book[at_seller], yen);
-    let bought = due_after(book[at_buyer], yen);
-    if sold > limits::POSITION {
+    let sold = book[at_seller].wrapping_add(yen);
+    let bought = book[at_buyer].wrapping_sub(yen);
+    if sound::owed_of(sold) > limits::POSITION {
         return Err(Refusal::PositionTooLarge);
     }
-    if bought > limits::POSITION {
+    if sound::due_of(bought) > limits::POSITION {
         return Err(Refusal::PositionTooLarge);
     }
-    if book[layout::TRADES] >= limits::TRADES {
+    let trades = book[layout::TRADES];
+    if trades >= limits::TRADES {
         return Err(Refusal::TooManyTrades);
     }
-    write_trade(book, at_seller, at_buyer, yen);
+    book[at_seller] = sold;
+    book[at_buyer] = bought;
+    book[layout::TRADES] = trades + 1;
     Ok(())
 }
 
