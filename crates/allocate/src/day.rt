@@ -2,7 +2,7 @@
 use crate::answers::{Failure, Unread};
 use crate::fields::{Basket, Codes, number, numbers};
 use crate::given::{Given, PAIRS, RECEIPTS};
-use crate::{Book, records};
+use crate::{Book, listing};
 use layout::{MOST_ISSUES, MOST_PARTICIPANTS};
 use rule::Yen;
 use std::alloc::Global;
@@ -121,8 +121,8 @@ impl Day {
         let mut lines = [0u64; 7392];
         let counts = allocation::run(&mut self.book, draw.as_slice(), &mut matches, &mut lines)?;
         println!(rt; "ran {} {}", counts.matches, counts.lines)?;
-        records::matches(rt, &codes, &matches, counts.matches)?;
-        records::lines(rt, &codes, &lines, counts.lines)?;
+        listing::matches(rt, &codes, &matches, counts.matches)?;
+        listing::lines(rt, &codes, &lines, counts.lines)?;
         Ok(())
     }
 
@@ -140,8 +140,8 @@ impl Day {
         if participants == 0 || issues == 0 {
             return Ok(());
         }
-        records::holdings(rt, "receipt", &codes, &receipts, issues)?;
-        records::pairs(rt, "pair", &pairs, participants)?;
+        listing::holdings(rt, "receipt", &codes, &receipts, issues)?;
+        listing::pairs(rt, "pair", &pairs, participants)?;
         Ok(())
     }
 
@@ -159,10 +159,10 @@ impl Day {
         let tally = &book[layout::TALLY..layout::LENGTH];
         println!(rt; "runs {}", book[layout::RUNS])?;
         println!(rt; "trades {}", book[layout::TRADES])?;
-        records::positions(rt, book)?;
-        records::holdings(rt, "notified", &codes, notices, MOST_ISSUES)?;
-        records::holdings(rt, "tally", &codes, tally, MOST_ISSUES)?;
-        records::pairs(rt, "paired", today, MOST_PARTICIPANTS)?;
+        listing::positions(rt, book)?;
+        listing::holdings(rt, "notified", &codes, notices, MOST_ISSUES)?;
+        listing::holdings(rt, "tally", &codes, tally, MOST_ISSUES)?;
+        listing::pairs(rt, "paired", today, MOST_PARTICIPANTS)?;
         Ok(())
     }
 }

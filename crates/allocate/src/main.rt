@@ -6,7 +6,7 @@ mod answers;
 mod day;
 mod fields;
 mod given;
-mod records;
+mod listing;
 mod sample;
 
 use answers::{Failure, Unread};
