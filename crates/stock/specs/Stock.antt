@@ -1,6 +1,7 @@
 -- What may be used, as it stands in cells. Assumes nothing.
-use Rattle.std.specs.Prelude.{◌≡◌, List, ℕ, ◌+◌, ◌-◌, ◌*◌, ◌≤◌, ◌<◌, length, get_or, take, eqb}
+use Rattle.std.specs.Prelude.{◌≡◌, Bool, true, false, List, ℕ, ◌+◌, ◌-◌, ◌*◌, ◌≤◌, ◌<◌, length, get_or}
 use Rattle.lists.specs.Tests.{pick}
+use Rattle.lists.specs.Tables.{table}
 use Rattle.lists.specs.Parts.{block}
 use Rattle.rule.specs.Value.{Terms}
 use Rattle.rule.specs.Baskets.{within}
@@ -18,20 +19,20 @@ terms_in b i = terms_of (block b (terms_at + 6 * i) 6)
 unfoldable pub allocable_in : List ℕ → ℕ → ℕ → ℕ
 allocable_in b p i = allocable (get_or b 2 0) (terms_in b i) (get_or b (notices_at + 32 * p + i) 0) (get_or b (receipts_at + 32 * p + i) 0)
 
--- 1 where issue i is of basket k
-unfoldable pub inside_of : List ℕ → ℕ → ℕ → ℕ
-inside_of b k i = pick (within k (terms_in b i)) 1 0
+-- issue i is of basket k
+unfoldable pub inside_of : List ℕ → ℕ → ℕ → Bool
+inside_of b k i = within k (terms_in b i)
 
--- what may be used of an issue, of which so much is allocable and was used; inside is 1 where it is of the basket
-unfoldable pub usable_of : ℕ → ℕ → ℕ → ℕ
-usable_of inside allocable used = pick (eqb inside 1) (allocable - used) 0
+-- what may be used of an issue, of which so much is allocable and was used, and which is of the basket or not
+unfoldable pub usable_of : Bool → ℕ → ℕ → ℕ
+usable_of inside allocable used = pick inside (allocable - used) 0
 
--- a book, and a row for at most all issues
-pub record Issues (b row : List ℕ) : Type 0 where
+-- a book, and a row for so many issues
+pub record Markable (b : List ℕ) (issues : ℕ) : Type 0 where
   pub cells : length b ≡ book_length
-  pub few : length row ≤ 32
+  pub few : issues ≤ 32
 
--- the same for a participant
+-- a book, and a participant's row
 pub record Row (b : List ℕ) (p : ℕ) (row : List ℕ) : Type 0 where
   pub cells : length b ≡ book_length
   pub participant : p < 12
@@ -50,21 +51,26 @@ pub record Allocable (b cells : List ℕ) : Type 0 where
   pub each : (p i : ℕ) → p < get_or b 0 0 → i < get_or b 1 0 → get_or cells (32 * p + i) 0 ≡ allocable_in b p i
 
 -- of an issue of the basket no more was used than is allocable
-pub record Enough (inside allocable used : ℕ) : Type 0 where
-  pub enough : inside ≡ 1 → used ≤ allocable
+pub record Enough (inside : Bool) (allocable used : ℕ) : Type 0 where
+  pub enough : inside ≡ true → used ≤ allocable
 
--- allocable quantities and used lots of each issue, no more of the basket's issues used than allocable, and their rates
-pub record Usable (inside allocable used rates : List ℕ) (issues : ℕ) (row : List ℕ) : Type 0 where
+-- rows of so many issues: which are of the basket, allocable quantities and used lots, no more of the basket's used than allocable, and
+-- their rates
+pub record Usable (inside : List Bool) (allocable used rates : List ℕ) (issues : ℕ) : Type 0 where
   pub few : issues ≤ 32
+  pub marked : issues ≤ length inside
   pub stock : issues ≤ length allocable
   pub gone : issues ≤ length used
+  pub rates_there : issues ≤ length rates
   pub allocable_most : (i : ℕ) → i < issues → get_or allocable i 0 ≤ 200_000_000
-  pub enough : (i : ℕ) → i < issues → get_or inside i 0 ≡ 1 → get_or used i 0 ≤ get_or allocable i 0
+  pub enough : (i : ℕ) → i < issues → get_or inside i false ≡ true → get_or used i 0 ≤ get_or allocable i 0
   pub priced : Priced issues rates
-  pub wide : length row ≡ 32
+
+-- what may be used of issue i
+abbrev pub may_use : List Bool → List ℕ → List ℕ → ℕ → ℕ
+may_use inside allocable used i = usable_of (get_or inside i false) (get_or allocable i 0) (get_or used i 0)
 
 -- what may be used of each issue, and what all of it is worth
-pub record Usables (inside allocable used rates : List ℕ) (issues : ℕ) (row : List ℕ) (all : ℕ) : Type 0 where
-  pub wide : length row ≡ 32
-  pub each : (i : ℕ) → i < issues → get_or row i 0 ≡ usable_of (get_or inside i 0) (get_or allocable i 0) (get_or used i 0)
-  pub worth_is : (ts : List Terms) → length ts ≡ issues → Rates ts rates → all ≡ worth ts (take issues row)
+pub record Usables (inside : List Bool) (allocable used rates : List ℕ) (issues : ℕ) (row : List ℕ) (all : ℕ) : Type 0 where
+  pub row_is : row ≡ table issues (may_use inside allocable used)
+  pub worth_is : (ts : List Terms) → length ts ≡ issues → Rates ts rates → all ≡ worth ts row

@@ -1,14 +1,15 @@
 // What may be used.
 #![tactic(auto)]
 
-ghost use Rattle.std.specs.Prelude.{◌≡◌};
+ghost use Rattle.std.specs.Prelude.{◌≡◌, length};
+ghost use Rattle.lists.specs.Tables.{table};
 ghost use Rattle.rows.specs.Rows.{Becomes};
-ghost use Rattle.stock.specs.Stock.{allocable_in, inside_of, usable_of, Issues, Row, Rows, Allocable, Enough, Usable, Usables};
+ghost use Rattle.stock.specs.Stock.{allocable_in, inside_of, usable_of, Markable, Row, Rows, Allocable, Enough, Usable, Usables};
 
 use rule::{Lots, Yen};
 use value::Rate;
 
-// A participant's allocable quantities.
+// A participant's allocable quantities. By number: a zip of the row with terms, notices and receipts would be tuples in tuples.
 fn allocable_row(book: &[u64], participant: usize, row: &mut [u64])
     requires { Row book.now participant row.old }
     ensures { Becomes (λ i c. c ≡ allocable_in book.now participant i) row.old row.new }
@@ -43,45 +44,46 @@ pub fn allocable_rows(book: &[u64], cells: &mut [u64])
     }
 }
 
-// 1 for an issue of the basket, 0 for every other.
-pub fn mark_issues(book: &[u64], basket: u64, row: &mut [u64])
-    requires { Issues book.now row.old }
-    ensures { Becomes (λ i c. c ≡ inside_of book.now basket i) row.old row.new }
+// Whether each issue is of the basket. By number: of a row that a zip wrote the prover knows the length and no cell.
+pub fn mark_issues(book: &[u64], basket: u64, row: &mut [bool])
+    requires { Markable book.now (length row.old) }
+    ensures { row.new ≡ table (length row.old) (inside_of book.now basket) }
 {
     let kinds = baskets::kinds_of(basket);
     for (i, mark) in row.iter_mut().enumerate() {
-        let within = baskets::is_among(&kinds, book[layout::TERMS + layout::TERM * i]);
-        *mark = u64::from(within);
+        *mark = baskets::is_among(&kinds, book[layout::TERMS + layout::TERM * i]);
     }
 }
 
 // "Lots used earlier in the same run are gone .. Outside the basket nothing may be used".
-fn usable(inside: u64, allocable: Lots, used: Lots) -> Lots
+#[tactic(auto, unfolding(crate::specs::Stock::usable_of))]
+fn usable(inside: bool, allocable: Lots, used: Lots) -> Lots
     requires { Enough inside allocable.0 used.0 }
     ensures { result.0 ≡ usable_of inside allocable.0 used.0 }
 {
-    if inside != 1 {
-        return Lots(0);
+    if inside {
+        Lots(allocable.0 - used.0)
+    } else {
+        Lots(0)
     }
-    Lots(allocable.0 - used.0)
 }
 
-// What may be used of each issue, into a lent row, and what all of it is worth.
+// What may be used of each issue, into a lent row, and what all of it is worth. By number: a zip of the five rows would be tuples in
+// tuples.
 pub fn usable_row(
-    inside: &[u64; 32],
+    inside: &[bool],
     allocable: &[u64],
     used: &[u64],
-    rates: &[u64; 32],
-    issues: usize,
-    row: &mut [u64; 32],
+    rates: &[u64],
+    row: &mut [u64],
 ) -> Yen
-    requires { Usable inside.now allocable.now used.now rates.now issues row.old }
-    ensures { Usables inside.now allocable.now used.now rates.now issues row.new result.0 }
+    requires { Usable inside.now allocable.now used.now rates.now (length row.old) }
+    ensures { Usables inside.now allocable.now used.now rates.now (length row.old) row.new result.0 }
 {
     let mut all = Yen(0);
-    for i in 0..issues {
+    for (i, cell) in row.iter_mut().enumerate() {
         let lots = usable(inside[i], Lots(allocable[i]), Lots(used[i]));
-        row[i] = lots.0;
+        *cell = lots.0;
         all = Rate(rates[i]).add_value(all, lots);
     }
     all

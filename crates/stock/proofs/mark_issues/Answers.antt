@@ -1,13 +1,12 @@
-use Rattle.std.proofs.Common.{arith, rules}
-use Rattle.rows.proofs.RowLaws.{changed-none, changed-more, changed-all}
-use Rattle.stock.proofs.StockLaws.{inside-cell}
+use Rattle.std.proofs.Common.{arith}
+use Rattle.stock.proofs.StockLaws.{inside-cell, marked-none, marked-more, marked-all}
 use Rattle.stock.proofs.mark_issues.Goals as goal
 
 pub loop-i-init : goal.loop-i-init
-loop-i-init c = changed-none _ _
+loop-i-init c = marked-none _ _ _
 
 pub loop-i-preserved : goal.loop-i-preserved
-loop-i-preserved c = changed-more _ _ (omega arith) (inside-cell _ _ _ (λ t e. c.is_among-within.ensures _ t c.kinds_of-kinds.ensures e) (search rules)) c.loop-i.invariant
+loop-i-preserved c = marked-more c.loop-i.invariant (omega arith) (inside-cell _ _ _ (λ t e. c.is_among.ensures _ t c.kinds_of-kinds.ensures e))
 
 pub returns : goal.returns
-returns c = changed-all _ (omega arith) c.loop-i.invariant
+returns c = marked-all c.loop-i.invariant (omega arith)
