@@ -1,46 +1,67 @@
 -- Laws of the order of a deliverer's issues. Assumes nothing.
-use mathlib.Core.Path.{◌≡◌, sym, ap, ap₂, ◌∙◌, subst}
+use mathlib.Core.Path.{◌≡◌, refl, sym, ap, ap₂, ◌∙◌, subst}
 use mathlib.Core.Logic.{◌≢◌, inl, inr}
 use mathlib.Core.Bool.{Bool, false}
-use mathlib.Core.List.{List, []}
+use mathlib.Core.List.{List, [], ◌∷◌, ◌++◌}
 use Rattle.std.specs.Prelude.{Option}
-use Prim.Native.Nat.{ℕ, ◌+◌, ◌-◌, ◌*◌, ◌≤◌, ◌<◌}
+use Rattle.std.specs.List.{refill}
+use Prim.Native.Nat.{ℕ, ◌+◌, ◌-◌, ◌*◌, ◌<◌}
 use native.Mathlib.Nat.{le_refl, not-suc-le-zero}
 use native.Mathlib.Decide.{ℕ_discrete}
 use native.Mathlib.Omega.{arith}
-use lib.ListN.{length, get_or, take, drop}
-use lib.Seq.{ext_get_or, take_all}
+use lib.ListN.{length, get_or, set, take, drop, length-set}
+use lib.Seq.{get_or-set_same, get_or-set_other}
 use lib.Dec.{eqb}
 use borrow.Author.Tests.{eqb-false}
-use borrow.Rule.Slice.PartMut.{put_mid}
-use Rattle.lists.specs.Tables.{table}
-use Rattle.lists.specs.Order.{ranked}
-use Rattle.lists.specs.Parts.{block}
-use Rattle.lists.proofs.TableLaws.{length-table, get_or-table}
-use Rattle.lists.proofs.PartLaws.{block-get, length-block, blocks-agree, rows_apart, part-is, part_length}
+use Rattle.std.proofs.lemmas.List.{get_or_default}
+use Rattle.arrayvec.specs.ArrayVec.{ArrayVec}
+use Rattle.lists.specs.Tables.{up_to}
+use Rattle.lists.specs.Folds.{Every}
+use Rattle.lists.specs.Order.{sorted, ranked}
+use Rattle.lists.proofs.TableLaws.{length_from}
+use Rattle.lists.proofs.FoldLaws.{every-from}
+use Rattle.lists.proofs.PartLaws.{block-get, part-is, part_length}
+use Rattle.lists.proofs.AppendLaws.{up_to-more}
 use Rattle.lists.proofs.OrderLaws.{ranked-alike}
 use Rattle.rule.specs.Layout.{notices_at}
 use Rattle.filling.specs.Rows.{Named}
 use Rattle.filling.specs.Match.{Idle}
 use Rattle.filling.proofs.OnceLaws.{kept-named}
-use Rattle.ranking.proofs.RankLaws.{length-ranked}
+use Rattle.ranking.specs.Ranks.{Sortable}
 use Rattle.matching.specs.declared.Match.{Match}
 use Rattle.ordering.specs.Ordered.{Orderable, Ordered, order_key}
-use Rattle.ordering.proofs.OrderLaws.{ordered-moved}
-use Rattle.rows.specs.Rows.{Becomes}
-use Rattle.rows.proofs.RowLaws.{lent-size, lent-in, lent_out}
+use Rattle.ordering.proofs.OrderLaws.{ordered-moved, sorted-back}
 use Rattle.orders.specs.Sizes.{issues_in}
-use Rattle.orders.specs.Orders.{Same, notified_in, RankedAt, Orders, Rankable, OrderedAt, Loadable, Loaded, OrderAsked, OrderFor}
+use Rattle.orders.specs.Orders.{Same, notified_in, ranking_in, RankedAt, Orders, Rankable, OrderedAt, Loadable, Loaded, OrderAsked, OrderFor}
 
--- ---- a row of a deliverer's issues, ranked
+-- ---- a deliverer's issues, ranked
 
-pub row-ranked : (notified row part : List ℕ) → Rankable notified row → length part ≡ length row → take (length notified) part ≡ ranked (λ i. get_or notified i 0) (length notified)
-    → part ≡ ranked (λ i. get_or notified i 0) (length notified)
-row-ranked notified row part h n e = sym (take_all (length notified) part (omega (arith, h.even))) ∙ e
+-- so many are numbered, in a ranking that was empty
+pub record NumberedTo (ranks : List ℕ) (i : ℕ) : Type 0 where
+  pub items : ranks ≡ up_to i
+
+pub numbered-none : (ranks : List ℕ) → length ranks ≡ 0 → NumberedTo ranks 0
+numbered-none [] e = record { items = refl }
+numbered-none (x ∷ xs) e = absurd (omega (arith, e))
+
+module _ {ranks : List ℕ} {i : ℕ} (w : NumberedTo ranks i) where
+  pub numbered-room : i < 32 → length ranks < 32
+  numbered-room l = omega (arith, ap length w.items, length_from 0 i)
+
+  pub numbered-more : {ranks' : List ℕ} → ranks' ≡ ranks ++ (i ∷ []) → NumberedTo ranks' (i + 1)
+  numbered-more e = record { items = e ∙ ap (λ (l : List ℕ). l ++ (i ∷ [])) w.items ∙ sym (up_to-more i) }
+
+  module _ (notified : List ℕ) (e : i ≡ length notified) where
+    pub numbered-sortable : {lent : List ℕ} → lent ≡ ranks → Sortable notified lent
+    numbered-sortable f = record { places = subst (Every (λ p. p < length notified)) (sym (f ∙ w.items)) (rw e (every-from (λ p. p < length notified) 0 (length notified) (λ p a b. omega arith))) }
+
+    pub numbered-ranked : {lent back : List ℕ} → lent ≡ ranks → back ≡ sorted (λ i. get_or notified i 0) lent
+        → refill (length ranks) ranks back ≡ ranked (λ i. get_or notified i 0) (length notified)
+    numbered-ranked f s = sorted-back (λ i. get_or notified i 0) ranks f s ∙ ap (sorted (λ i. get_or notified i 0)) (w.items ∙ ap up_to e)
 
 -- ---- the order of a deliverer's issues
 
-module _ {b before : List ℕ} {d : ℕ} {orders : List ℕ} (L : Loadable b before d orders) where
+module _ {b before : List ℕ} {d : ℕ} {usable : List ℕ} {orders : List (ArrayVec ℕ)} (L : Loadable b before d usable orders) where
   abbrev m : ℕ
   m = issues_in b
 
@@ -65,80 +86,51 @@ module _ {b before : List ℕ} {d : ℕ} {orders : List ℕ} (L : Loadable b bef
   ranks-are : ranks ≡ ranked (notified_in b d) m
   ranks-are = ap (ranked (λ i. get_or notified i 0)) notified-size ∙ ranked-alike _ _ m notified-at
 
-  row_fits : (rows : List ℕ) → length rows ≡ 384 → at + m ≤ length rows
-  row_fits rows e = omega (arith, L.sized.issues, L.deliverer)
+  deliverer-there : d < length orders
+  deliverer-there = omega (arith, L.kept.places, L.deliverer)
 
-  fits : at + m ≤ length orders
-  fits = row_fits orders L.kept.places
+  pub rank-asks : (x : ArrayVec ℕ) → Rankable notified (get_or orders d x).items
+  rank-asks x =
+      let same : (get_or orders d x).items ≡ ranking_in orders d = ap (λ (o : ArrayVec ℕ). o.items) (get_or_default orders d x (record { items = [] }) deliverer-there) in
+      record {
+        few = omega (arith, notified-size, L.sized.issues);
+        already = λ l. same ∙ L.kept.each d L.deliverer (omega (arith, ap length same)) ∙ sym ranks-are;
+      }
 
-  abbrev row : List ℕ
-  row = take (at + m - at) (drop at orders)
-
-  row-size : length row ≡ m
-  row-size = part_length orders at m fits
-
-  pub rank-asks : Rankable notified row
-  rank-asks = record {
-    some = omega (arith, row-size, L.sized.some);
-    even = notified-size ∙ sym row-size;
-    already = λ l. part-is orders at m ∙ L.kept.each d L.deliverer (first l) ∙ sym ranks-are;
-  }
-    where
-      first : get_or row 0 0 < 32 → get_or orders at 0 < 32
-      first l =
-          let z : at + 0 ≡ at = omega arith in
-          let e : get_or row 0 0 ≡ get_or orders at 0 = rw z at (ap (λ (p : List ℕ). get_or p 0 0) (part-is orders at m) ∙ block-get orders at m 0 L.sized.some) in
-          omega arith
-
-  -- the row is ranked, and is back
-  module _ {part : List ℕ} (e : part ≡ ranks) where
-    abbrev back : List ℕ
-    back = put_mid at (at + m - at) orders part
-
-    w : Becomes (λ i c. c ≡ get_or (ranked (notified_in b d) m) i 0) row part
-    w = record {
-      size = ap length (e ∙ ranks-are) ∙ length-ranked (notified_in b d) m ∙ sym row-size;
-      cells = λ i l. ap (λ (p : List ℕ). get_or p i 0) (e ∙ ranks-are);
-    }
-
-    back-size : length back ≡ length orders
-    back-size = lent-size _ orders at m part fits w
+  -- the ranking is back
+  module _ {own : ArrayVec ℕ} (e : own.items ≡ ranks) where
+    abbrev back : List (ArrayVec ℕ)
+    back = set orders d own
 
     own_row : RankedAt b d back
-    own_row =
-        let wide : length (block back at m) ≡ m = length-block back at m (omega (arith, back-size, fits)) in
-        ext_get_or 0 (block back at m) (ranked (notified_in b d) m) (wide ∙ sym (length-ranked (notified_in b d) m))
-        (λ i l. block-get back at m i (omega (arith, wide)) ∙ lent-in _ orders at m part fits w i (omega (arith, wide)))
+    own_row = ap (λ (o : ArrayVec ℕ). o.items) (get_or-set_same orders d own (record { items = [] }) deliverer-there) ∙ e ∙ ranks-are
 
-    -- the other rows are as before
-    other-cell : (p i : ℕ) → p ≢ d → i < m → get_or back (32 * p + i) 0 ≡ get_or orders (32 * p + i) 0
-    other-cell p i x l = lent_out _ orders at m part fits w (32 * p + i) (rows_apart 32 p d i m l L.sized.issues x)
-
-    other_row : (p : ℕ) → p ≢ d → p < 12 → get_or back (32 * p) 0 < 32 → RankedAt b p back
+    -- the other rankings are as before
+    other_row : (p : ℕ) → p ≢ d → p < 12 → 0 < length (ranking_in back p) → RankedAt b p back
     other_row p x y l =
-        let z : 32 * p + 0 ≡ 32 * p = omega arith in
-        let was : get_or back (32 * p) 0 ≡ get_or orders (32 * p) 0 = rw z at (other-cell p 0 x L.sized.some) in
-        blocks-agree back orders (32 * p) m back-size (λ i k. other-cell p i x k) ∙ L.kept.each p y (omega arith)
+        let same : ranking_in back p ≡ ranking_in orders p = ap (λ (o : ArrayVec ℕ). o.items) (get_or-set_other orders d p own (record { items = [] }) x) in
+        same ∙ L.kept.each p y (omega (arith, ap length same))
 
     kept : Orders b back
-    kept = record { places = back-size ∙ L.kept.places; each = λ p y l. go p y l (ℕ_discrete p d) }
+    kept = record { places = length-set orders d own ∙ L.kept.places; each = λ p y l. go p y l (ℕ_discrete p d) }
       where
-        go : (p : ℕ) → p < 12 → get_or back (32 * p) 0 < 32 → Dec (p ≡ d) → RankedAt b p back
+        go : (p : ℕ) → p < 12 → 0 < length (ranking_in back p) → Dec (p ≡ d) → RankedAt b p back
         go p y l (yes x) = subst (λ (q : ℕ). RankedAt b q back) (sym x) own_row
         go p y l (no x) = other_row p x y l
 
     abbrev earlier : List ℕ
     earlier = take (at + m - at) (drop at before)
 
-    pub order-asks : Orderable notified earlier (take (at + m - at) (drop at back))
-    order-asks = record {
+    pub order-asks : {lent : List ℕ} → lent ≡ own.items → Orderable notified earlier lent (length usable)
+    order-asks f = record {
       issues_most = omega (arith, notified-size, L.sized.issues);
-      earlier = part_length before at m (row_fits before L.earlier) ∙ sym notified-size;
+      earlier = part_length before at m (omega (arith, L.earlier, L.sized.issues, L.deliverer)) ∙ sym notified-size;
+      usable_there = omega (arith, notified-size, L.usable_there);
       notified_most = λ i l. let k : i < m = omega (arith, notified-size) in omega (arith, notified-at i k, L.notified_most i k);
-      ranks = part-is back at m ∙ own_row ∙ sym ranks-are;
+      ranks = f ∙ e;
     }
 
-    pub all-loaded : (preferential : Bool) {usable order : List ℕ}
+    pub all-loaded : (preferential : Bool) {order : List ℕ}
         → Ordered (length notified) (λ i. order_key preferential (get_or notified i 0) (get_or earlier i 0)) (λ i. get_or usable i 0) order
         → Loaded b before d preferential usable back order
     all-loaded preferential o = record {
@@ -155,7 +147,7 @@ module _ {b before : List ℕ} {d : ℕ} {orders : List ℕ} (L : Loadable b bef
 pub not-empty : (empty : Bool) (n : ℕ) → empty ≡ eqb n 0 → empty ≡ false → 0 < n
 not-empty empty n e f = omega (arith, eqb-false n 0 (sym e ∙ f))
 
-module _ {b before : List ℕ} {last : Option Match} {m : Match} {usable orders order : List ℕ} (a : OrderAsked b before last m usable orders order) (all : ℕ) where
+module _ {b before : List ℕ} {last : Option Match} {m : Match} {usable : List ℕ} {orders : List (ArrayVec ℕ)} {order : List ℕ} (a : OrderAsked b before last m usable orders order) (all : ℕ) where
   named-of : {order' : List ℕ} → OrderedAt b before m (λ i. get_or usable i 0) order' → Named (issues_in b) order'
   named-of o = subst (Named (issues_in b)) (sym o.names) (kept-named (issues_in b) _ o.live)
 
@@ -176,23 +168,20 @@ module _ {b before : List ℕ} {last : Option Match} {m : Match} {usable orders 
     listed = λ z. absurd (not-suc-le-zero z);
   })
 
-  pub now-listed : {orders' order' : List ℕ} → Loaded b before m.deliverer m.preferential usable orders' order' → OrderFor b before m usable all orders' order'
+  pub now-listed : {orders' : List (ArrayVec ℕ)} {order' : List ℕ} → Loaded b before m.deliverer m.preferential usable orders' order' → OrderFor b before m usable all orders' order'
   now-listed l = record { kept = l.kept; named = named-of l.ordered; fits = inl l.ordered; listed = λ z. l.ordered }
 
 -- ---- the rows of a run
 
 -- none is ranked where a run begins
-pub orders-begin : (b : List ℕ) → Orders b (table 384 (λ i. 32))
-orders-begin b = record {
-  places = length-table {A = ℕ} 384 (λ i. 32);
-  each = λ d x l. absurd (omega (arith, get_or-table {A = ℕ} 384 (λ i. 32) (32 * d) 0 (omega arith)));
-}
+pub orders-begin : (b : List ℕ) (orders : List (ArrayVec ℕ)) → length orders ≡ 12 → ((d : ℕ) → d < 12 → ranking_in orders d ≡ []) → Orders b orders
+orders-begin b orders l e = record { places = l; each = λ d x s. absurd (omega (arith, ap length (e d x))) }
 
--- a book with the same notices has the same ranking
-pub orders-moved : (b c : List ℕ) {orders : List ℕ} → issues_in b ≡ issues_in c → ((d i : ℕ) → d < 12 → i < issues_in b → notified_in b d i ≡ notified_in c d i) → Orders b orders → Orders c orders
-orders-moved b c {orders} e same o = record {
+-- a book with the same notices has the same rankings
+pub orders-moved : (b c : List ℕ) {orders : List (ArrayVec ℕ)} → issues_in b ≡ issues_in c → ((d i : ℕ) → d < 12 → i < issues_in b → notified_in b d i ≡ notified_in c d i) → Orders b orders → Orders c orders
+orders-moved b c e same o = record {
   places = o.places;
   each = λ d x l.
-      ap (block orders (32 * d)) (sym e) ∙ o.each d x l
+      o.each d x l
       ∙ ranked-alike (notified_in b d) (notified_in c d) (issues_in b) (λ i k. same d i x k) ∙ ap (ranked (notified_in c d)) e;
 }

@@ -19,16 +19,18 @@ fn follows(last: Option<Match>, m: Match) -> bool
     }
 }
 
-// A deliverer's issues, ranked by notified lots when they are first asked for in a run. A row whose first cell names no issue is not
-// ranked yet.
-fn rank_issues(notified: &[u64], row: &mut [u64])
-    requires { Rankable notified.now row.old }
-    ensures { row.new ≡ ranked (λ i. get_or notified.now i 0) (length notified.now) }
+// A deliverer's issues, ranked by notified lots when they are first asked for in a run: until then the ranking is empty.
+fn rank_issues(notified: &[u64], ranks: &mut Order)
+    requires { Rankable notified.now ranks.old.items }
+    ensures { ranks.new.items ≡ ranked (λ i. get_or notified.now i 0) (length notified.now) }
 {
-    if row[0] < layout::MOST_ISSUES as u64 {
+    if !ranks.is_empty() {
         return;
     }
-    ranking::rank(notified, row);
+    for issue in 0..notified.len() {
+        ranks.push(issue as u64);
+    }
+    ranking::sort(notified, ranks.as_mut_slice());
 }
 
 // The order of the deliverer's issues of which something may be used.
@@ -36,11 +38,11 @@ fn load_order(
     book: &[u64],
     before: &[u64],
     m: Match,
-    usable: &[u64; 32],
-    orders: &mut [u64],
+    usable: &[u64],
+    orders: &mut [Order],
     order: &mut Order,
 )
-    requires { Loadable book.now before.now m.deliverer orders.old }
+    requires { Loadable book.now before.now m.deliverer usable.now orders.old }
     ensures { Loaded book.now before.now m.deliverer m.preferential usable.now orders.new order.new.items }
 {
     let issues = book[layout::ISSUES] as usize;
@@ -48,12 +50,14 @@ fn load_order(
     let end = from + issues;
     let notices = layout::NOTICES + from;
     let notices_end = notices + issues;
-    rank_issues(&book[notices..notices_end], &mut orders[from..end]);
+    let notified = &book[notices..notices_end];
+    let ranks = &mut orders[m.deliverer];
+    rank_issues(notified, &mut *ranks);
     ordering::issue_order(
         m.preferential,
-        &book[notices..notices_end],
+        notified,
         &before[from..end],
-        &orders[from..end],
+        ranks.as_slice(),
         usable,
         order,
     );
@@ -66,9 +70,9 @@ pub fn order_for(
     before: &[u64],
     last: Option<Match>,
     m: Match,
-    usable: &[u64; 32],
+    usable: &[u64],
     all: Yen,
-    orders: &mut [u64],
+    orders: &mut [Order],
     order: &mut Order,
 )
     requires { OrderAsked book.now before.now last m usable.now orders.old order.old.items }

@@ -1,9 +1,15 @@
--- `orders::rank_issues` meets its contract. Assumes nothing.
-use Rattle.orders.proofs.OrderLaws.{row-ranked}
+use Rattle.std.proofs.Common.{arith}
+use Rattle.orders.proofs.OrderLaws.{numbered-room, numbered-more, numbered-sortable, numbered-ranked}
 use Rattle.orders.proofs.rank_issues.Goals as goal
 
-pub returns-then-row : goal.returns-then-row
-returns-then-row c = c.requires.already c.if-row.true
+pub push-requires : goal.push-requires
+push-requires c = (omega arith, numbered-room c.loop-issue.invariant (omega (arith, c.requires.few)))
+
+pub loop-issue-preserved : goal.loop-issue-preserved
+loop-issue-preserved c = numbered-more c.loop-issue.invariant c.push.ensures.items
+
+pub sort-requires : goal.sort-requires
+sort-requires c = numbered-sortable c.loop-issue.invariant c.args.notified.now (omega arith) c.as_mut_slice.ensures.value
 
 pub returns : goal.returns
-returns c = row-ranked _ _ _ c.requires c.rank.auto.order c.rank.ensures
+returns c = numbered-ranked c.loop-issue.invariant c.args.notified.now (omega arith) c.as_mut_slice.ensures.value c.sort.ensures
