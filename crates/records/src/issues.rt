@@ -28,24 +28,11 @@ fn write_issue(
 }
 
 // All issues' lots; "issues rise within a match". `used` is the deliverer's row of lots used.
-pub fn write_issues(
-    book: &mut [u64],
-    used: &mut [u64],
-    lists: &mut Lists,
-    m: Match,
-    lots: &[u64],
-)
+pub fn write_issues(book: &mut [u64], used: &mut [u64], lists: &mut Lists, m: Match, lots: &[u64])
     requires { IssuesWritable book.old used.old lists.old m lots.now }
     ensures { IssuesWritten book.old used.old lists.old m lots.now book.new used.new lists.new }
 {
     for (issue, taken) in lots.iter().enumerate() {
-        write_issue(
-            &mut *book,
-            &mut *used,
-            &mut *lists,
-            m,
-            issue,
-            Lots(*taken),
-        );
+        write_issue(&mut *book, &mut *used, &mut *lists, m, issue, Lots(*taken));
     }
 }

@@ -45,15 +45,7 @@ fn allocate(
             &mut order,
         );
         let f = matched::fill_next(&*book, basket, *m, rates, &usable, all, &order, &mut *lots);
-        matched::write_next(
-            &mut *book,
-            basket,
-            *m,
-            f,
-            lots,
-            &mut *used,
-            &mut *lists,
-        );
+        matched::write_next(&mut *book, basket, *m, f, lots, &mut *used, &mut *lists);
         last = Some(*m);
     }
 }
