@@ -2,10 +2,9 @@
 use mathlib.Core.Path.{◌≡◌, sym, ap, ap₂, ◌∙◌, subst}
 use mathlib.Core.List.{List}
 use Prim.Native.Nat.{ℕ, ◌+◌, ◌-◌, ◌*◌, ◌≤◌, ◌<◌}
-use native.Mathlib.Decide.{ℕ_discrete}
 use native.Mathlib.Omega.{arith}
-use lib.ListN.{length, get_or, set, take, drop, length-set}
-use lib.Seq.{ext_get_or, length-take-le, get_or-take, get_or-set_same, get_or-set_other}
+use lib.ListN.{length, get_or, take, drop}
+use lib.Seq.{ext_get_or, length-take-le, get_or-take}
 use Rattle.lists.specs.Tables.{table}
 use Rattle.lists.specs.Parts.{block}
 use Rattle.lists.proofs.TableLaws.{length-table, get_or-table}
@@ -17,11 +16,10 @@ use Rattle.filling.specs.Match.{FilledAs}
 use Rattle.value.specs.Rated.{terms_in}
 use Rattle.filling.specs.declared.Filling.{Filling}
 use Rattle.matching.specs.declared.Match.{Match as Entry}
-use Rattle.records.specs.Issues.{Used, IssuesWritable, IssuesWritten}
 use Rattle.stock.specs.Stock.{usable_of, Usable as RowUsable, Usables}
 use Rattle.stock.proofs.StockLaws.{usable_most}
 use Rattle.orders.specs.Sizes.{issues_in}
-use Rattle.matched.specs.Filled.{book_terms, usable_in, UsableAsked, UsableLots, Fillable, filled_in, lots_with, LotsWritable, LotsWritten}
+use Rattle.matched.specs.Filled.{book_terms, usable_in, UsableAsked, UsableLots, Fillable, filled_in}
 
 -- ---- what may be used
 
@@ -100,79 +98,3 @@ module _ {b : List ℕ} {e : Entry} {rates usable : List ℕ} {all : ℕ} {order
       usable-long (part-is b from n)
       ∙ ap (λ (l : List ℕ). filled (get_or b 2 0) e.preferential (book_terms b) (take n usable) l (forced_issue k (book_terms b) (block b from n)) e.amount.0) o)
       q
-
--- ---- writing
-
-module _ {b used lines : List ℕ} {d r number first : ℕ} {f : Filling} {lots : List ℕ} (h : LotsWritable b used lines d r number first f lots) where
-  abbrev place : ℕ
-  place = 32 * d + f.forced
-
-  abbrev further : ℕ
-  further = f.forced_lots.0
-
-  size-with : length (lots_with f lots) ≡ length lots
-  size-with = length-set lots f.forced (get_or lots f.forced 0 + further)
-
-  -- also in another book
-  pub lots-ask : {c : List ℕ} → length c ≡ length b → LotsWritable c used lines d r number first f lots
-  lots-ask e = record {
-    book = e ∙ h.book;
-    deliverer = h.deliverer;
-    receiver = h.receiver;
-    apart = h.apart;
-    few = h.few;
-    gone = h.gone;
-    small = h.small;
-    forced = h.forced;
-    forced_small = h.forced_small;
-    room = h.room;
-  }
-
-  pub issues-ask : IssuesWritable b used lines d r number first (lots_with f lots)
-  issues-ask = record {
-    cells = h.book;
-    deliverer = h.deliverer;
-    receiver = h.receiver;
-    apart = h.apart;
-    few = omega (arith, size-with, h.few);
-    places = h.gone;
-    small = λ i l. h.small i (omega (arith, size-with));
-    room = record { places = h.room };
-  }
-
-  module _ {b' u lines' : List ℕ} {count : ℕ} (w : IssuesWritten b used lines d r number first (lots_with f lots) b' u lines' count) where
-    pub place-fits : place < length u
-    place-fits = omega (arith, w.gone.size, h.gone, h.deliverer, h.forced, h.few)
-
-    -- the forced issue's lots used, the forced ones with them
-    forced-is : get_or u place 0 ≡ get_or used place 0 + (get_or lots f.forced 0 + further)
-    forced-is =
-        w.gone.more f.forced (omega (arith, size-with, h.forced))
-        ∙ ap (λ (x : ℕ). get_or used place 0 + x) (get_or-set_same lots f.forced (get_or lots f.forced 0 + further) 0 h.forced)
-
-    pub forced-there : further ≤ get_or u place 0
-    forced-there = omega (arith, forced-is)
-
-    abbrev used' : List ℕ
-    used' = set u place (get_or u place 0 - further)
-
-    without-forced : Used used used' d lots
-    without-forced = record {
-      size = length-set u place (get_or u place 0 - further) ∙ w.gone.size;
-      more = λ i l. cases i l (ℕ_discrete i f.forced);
-      kept = λ q e. get_or-set_other u place q (get_or u place 0 - further) 0 (e f.forced h.forced) ∙ w.gone.kept q (λ i l. e i (omega (arith, size-with)));
-    }
-      where
-        cases : (i : ℕ) → i < length lots → Dec (i ≡ f.forced) → get_or used' (32 * d + i) 0 ≡ get_or used (32 * d + i) 0 + get_or lots i 0
-        cases i l (yes e) =
-            ap (λ (x : ℕ). get_or used' (32 * d + x) 0) e
-            ∙ get_or-set_same u place (get_or u place 0 - further) 0 place-fits
-            ∙ omega (arith, forced-is)
-            ∙ ap (λ (x : ℕ). get_or used (32 * d + x) 0 + get_or lots x 0) (sym e)
-        cases i l (no n) =
-            get_or-set_other u place (32 * d + i) (get_or u place 0 - further) 0 (λ e. n (omega arith))
-            ∙ w.gone.more i (omega (arith, size-with))
-            ∙ ap (λ (x : ℕ). get_or used (32 * d + i) 0 + x) (get_or-set_other lots f.forced i (get_or lots f.forced 0 + further) 0 n)
-
-    pub lots-written : LotsWritten b used lines d r number first f lots b' used' lines' count
-    lots-written = record { gone = without-forced; listed = w.listed; moved = w.moved }

@@ -13,9 +13,9 @@ use Rattle.orders.specs.Sizes.{participants_in, issues_in, Sized}
 use Rattle.filling.specs.Rows.{Named}
 use Rattle.filling.specs.declared.Filling.{Filling}
 use Rattle.stock.specs.Stock.{usable_of}
-use Rattle.records.specs.Listed.{entry_of, lines_for, Listed}
+use Rattle.records.specs.declared.listing.Lists.{Lists}
+use Rattle.records.specs.Listed.{entry_of, lines_for, Listed, SameLists, LinesOnly}
 use Rattle.records.specs.Booked.{YenMoved, LotsMoved}
-use Rattle.records.specs.Issues.{Used}
 
 -- ---- the plan of a basket
 
@@ -88,37 +88,44 @@ abbrev pub lots_with : Filling → List ℕ → List ℕ
 lots_with f lots = set lots f.forced (get_or lots f.forced 0 + f.forced_lots.0)
 
 -- a match's lots are to be written: two participants, room for the lines, and sums that 64 bits hold
-pub record LotsWritable (b used lines : List ℕ) (d r number first : ℕ) (f : Filling) (lots : List ℕ) : Type 0 where
+pub record LotsWritable (b used : List ℕ) (s : Lists) (m : Entry) (f : Filling) (lots : List ℕ) : Type 0 where
   pub book : length b ≡ book_length
-  pub deliverer : d < 12
-  pub receiver : r < 12
-  pub apart : d ≢ r
+  pub deliverer : m.deliverer < 12
+  pub receiver : m.receiver < 12
+  pub apart : m.deliverer ≢ m.receiver
   pub few : length lots ≤ 32
   pub gone : length used ≡ 384
-  pub small : (i : ℕ) → i < length lots → get_or used (32 * d + i) 0 + get_or (lots_with f lots) i 0 < 18446744073709551616
+  pub small : (i : ℕ) → i < length lots → get_or used (32 * m.deliverer + i) 0 + get_or (lots_with f lots) i 0 < 18446744073709551616
   pub forced : f.forced < length lots
   pub forced_small : get_or lots f.forced 0 + f.forced_lots.0 < 18446744073709551616
-  pub room : 3 * (first + length (lines_for number (lots_with f lots))) ≤ length lines
+  pub room : 3 * (s.counts.lines + length (lines_for s.counts.matches (lots_with f lots))) ≤ length s.lines.now
+
+-- a deliverer's lots are used, in its row of 32
+pub record UsedBy (entry exit : List ℕ) (d : ℕ) (lots : List ℕ) : Type 0 where
+  pub size : length exit ≡ length entry
+  pub more : (i : ℕ) → i < length lots → get_or exit (32 * d + i) 0 ≡ get_or entry (32 * d + i) 0 + get_or lots i 0
+  pub kept : (j : ℕ) → ((i : ℕ) → i < length lots → j ≢ 32 * d + i) → get_or exit j 0 ≡ get_or entry j 0
 
 -- lots used, and these with the forced ones listed and booked
-pub record LotsWritten (b used lines : List ℕ) (d r number first : ℕ) (f : Filling) (lots b' used' lines' : List ℕ) (count : ℕ) : Type 0 where
-  pub gone : Used used used' d lots
-  pub listed : Listed lines lines' first number (lots_with f lots) count
-  pub moved : LotsMoved b b' d r (lots_with f lots)
+pub record LotsWritten (b used : List ℕ) (s : Lists) (m : Entry) (f : Filling) (lots b' used' : List ℕ) (t : Lists) : Type 0 where
+  pub gone : UsedBy used used' m.deliverer lots
+  pub listed : Listed s.lines.now t.lines.now s.counts.lines s.counts.matches (lots_with f lots) t.counts.lines
+  pub moved : LotsMoved b b' m.deliverer m.receiver (lots_with f lots)
+  pub only : LinesOnly s t
 
-pub record Writable (b : List ℕ) (k : ℕ) (m : Entry) (f : Filling) (lots used matches lines : List ℕ) (n l : ℕ) : Type 0 where
+pub record Writable (b : List ℕ) (k : ℕ) (m : Entry) (f : Filling) (lots used : List ℕ) (s : Lists) : Type 0 where
   pub basket : k < 7
-  pub match_room : 7 * (n + 1) ≤ length matches
-  pub match_few : n + 1 < 18446744073709551616
-  pub lots_asked : LotsWritable b used lines m.deliverer m.receiver n l f lots
+  pub match_room : 7 * (s.counts.matches + 1) ≤ length s.matches.now
+  pub match_few : s.counts.matches + 1 < 18446744073709551616
+  pub lots_asked : LotsWritable b used s m f lots
 
 -- match m is written: its lots used, listed and booked
-pub record Wrote (b : List ℕ) (k : ℕ) (m : Entry) (f : Filling) (lots used matches lines : List ℕ) (n l : ℕ)
-    (b' used' matches' lines' : List ℕ) (n' l' : ℕ) : Type 0 where
-  pub gone : Used used used' m.deliverer lots
-  pub entry : matches' ≡ over matches (7 * n) (entry_of k m.deliverer m.receiver m.amount.0 f)
-  pub matched : n' ≡ n + 1
-  pub listed : Listed lines lines' l n (lots_with f lots) l'
+pub record Wrote (b : List ℕ) (k : ℕ) (m : Entry) (f : Filling) (lots used : List ℕ) (s : Lists) (b' used' : List ℕ) (t : Lists) : Type 0 where
+  pub gone : UsedBy used used' m.deliverer lots
+  pub entry : t.matches.now ≡ over s.matches.now (7 * s.counts.matches) (entry_of k m.deliverer m.receiver m.amount.0 f)
+  pub matched : t.counts.matches ≡ s.counts.matches + 1
+  pub listed : Listed s.lines.now t.lines.now s.counts.lines s.counts.matches (lots_with f lots) t.counts.lines
+  pub same : SameLists s t
   pub between : List ℕ
   pub yen : YenMoved b between k m.deliverer m.receiver f.covered.0
   pub moved : LotsMoved between b' m.deliverer m.receiver (lots_with f lots)

@@ -9,8 +9,9 @@ use book::sound;
 use filling::{Filling, Supply};
 use matching::{Match, Plan};
 use ordering::Order;
-use records::{booking, issues, listing};
-use rule::{Counts, Yen};
+use records::listing::Lists;
+use records::{booking, issues};
+use rule::Yen;
 
 // The matches of the basket, from rows for what each participant owes and has due.
 fn plan_rows(
@@ -118,27 +119,26 @@ pub fn fill_next(
     )
 }
 
-// A match's lots, the forced ones with them, booked and listed; "forced lots never count as used". How many lines there are then.
+// A match's lots, the forced ones with them, booked and listed; "forced lots never count as used".
 fn write_lots(
     book: &mut [u64],
     used: &mut [u64],
-    lines: &mut [u64],
+    lists: &mut Lists,
     m: Match,
-    number: u64,
-    first: usize,
     f: Filling,
     lots: &mut [u64],
-) -> usize
-    requires { LotsWritable book.old used.old lines.old m.deliverer m.receiver number first f lots.old }
-    ensures { LotsWritten book.old used.old lines.old m.deliverer m.receiver number first f lots.old book.new used.new lines.new result }
+)
+    requires { LotsWritable book.old used.old lists.old m f lots.old }
+    ensures { LotsWritten book.old used.old lists.old m f lots.old book.new used.new lists.new }
 {
     let forced = f.forced as usize;
     let further = f.forced_lots;
     lots[forced] = lots[forced] + further.0;
-    let count = issues::write_issues(book, &mut *used, lines, m, number, first, &*lots);
-    let place = layout::MOST_ISSUES * m.deliverer + forced;
+    let at = layout::MOST_ISSUES * m.deliverer;
+    let end = at + lots.len();
+    issues::write_issues(book, &mut used[at..end], lists, m, &*lots);
+    let place = at + forced;
     used[place] = used[place] - further.0;
-    count
 }
 
 // A match as it was filled: its lots are used, and it is listed and booked.
@@ -149,28 +149,12 @@ pub fn write_next(
     f: Filling,
     lots: &mut [u64],
     used: &mut [u64],
-    matches: &mut [u64],
-    lines: &mut [u64],
-    done: Counts,
-) -> Counts
-    requires { Writable book.old basket m f lots.old used.old matches.old lines.old done.matches done.lines }
-    ensures { Wrote book.old basket m f lots.old used.old matches.old lines.old done.matches done.lines
-        book.new used.new matches.new lines.new result.matches result.lines }
+    lists: &mut Lists,
+)
+    requires { Writable book.old basket m f lots.old used.old lists.old }
+    ensures { Wrote book.old basket m f lots.old used.old lists.old book.new used.new lists.new }
 {
-    listing::write_match(matches, done.matches, basket as u64, m, f);
     booking::move_yen(&mut *book, basket, m, f.covered);
-    let line = write_lots(
-        book,
-        used,
-        lines,
-        m,
-        done.matches as u64,
-        done.lines,
-        f,
-        lots,
-    );
-    Counts {
-        matches: done.matches + 1,
-        lines: line,
-    }
+    write_lots(book, used, &mut *lists, m, f, lots);
+    lists.add_match(basket as u64, m, f);
 }

@@ -8,15 +8,30 @@ use Rattle.lists.specs.Parts.{over}
 use Rattle.lists.proofs.TestLaws.{pick_yes, pick_no}
 use Rattle.lists.proofs.PartLaws.{length_over}
 use Rattle.lists.proofs.AppendLaws.{map-append, keep_append, joined-append, joined_length, up_to-more, over_none, over-more}
-use Rattle.records.specs.Listed.{line_for, lines_to, lines_for, LineRoom, Lined, LinesRoom, Listed}
+use Rattle.records.specs.declared.listing.Lists.{Lists}
+use Rattle.records.specs.Listed.{line_for, lines_to, lines_for, LineRoom, SameLists, Lined, LinesRoom, Listed}
+
+-- ---- the slices that were lent
+
+pub same-lists : (s : Lists) → SameLists s s
+same-lists s = record { matches = refl; lines = refl; match_places = refl; line_places = refl }
+
+pub same-then : {s t u : Lists} → SameLists s t → SameLists t u → SameLists s u
+same-then a b = record {
+  matches = b.matches ∙ a.matches;
+  lines = b.lines ∙ a.lines;
+  match_places = b.match_places ∙ a.match_places;
+  line_places = b.line_places ∙ a.line_places;
+}
 
 -- ---- the line of an issue, if it has lots
 
 pub lined-none : (b : List ℕ) (line number i : ℕ) {lots : ℕ} → lots ≡ 0 → Lined b b line number i lots line
 lined-none b line number i z = record { some = λ h. absurd (omega arith); none = λ h. (refl, refl) }
 
-pub lined-some : {b c : List ℕ} (line number i : ℕ) {lots : ℕ} → lots ≢ 0 → c ≡ over b (3 * line) (number ∷ i ∷ lots ∷ []) → Lined b c line number i lots (line + 1)
-lined-some line number i {lots} z e = record { some = λ p. (e, refl); none = λ p. absurd (z (omega arith)) }
+pub lined-some : {b c : List ℕ} (line number i : ℕ) {lots count : ℕ} → lots ≢ 0 → c ≡ over b (3 * line) (number ∷ i ∷ lots ∷ []) → count ≡ line + 1
+    → Lined b c line number i lots count
+lined-some line number i {lots} z e n = record { some = λ p. (e, n); none = λ p. absurd (z (omega arith)) }
 
 -- ---- the lines of a match
 

@@ -4,6 +4,8 @@ use Rattle.lists.specs.Tables.{up_to}
 use Rattle.lists.specs.Folds.{keep, joined}
 use Rattle.lists.specs.Parts.{over}
 use Rattle.filling.specs.declared.Filling.{Filling}
+use Rattle.matching.specs.declared.Match.{Match}
+use Rattle.records.specs.declared.listing.Lists.{Lists}
 
 -- the cells of a match
 abbrev pub entry_of : ℕ → ℕ → ℕ → ℕ → Filling → List ℕ
@@ -28,6 +30,33 @@ pub record MatchRoom (matches : List ℕ) (number : ℕ) : Type 0 where
 -- for line `line`
 pub record LineRoom (lines : List ℕ) (line : ℕ) : Type 0 where
   pub places : 3 * (line + 1) ≤ length lines
+
+-- the slices that were lent are the same ones
+pub record SameLists (s t : Lists) : Type 0 where
+  pub matches : t.matches.ghost_name ≡ s.matches.ghost_name
+  pub lines : t.lines.ghost_name ≡ s.lines.ghost_name
+  pub match_places : length t.matches.now ≡ length s.matches.now
+  pub line_places : length t.lines.now ≡ length s.lines.now
+
+-- a match was written
+pub record MatchAdded (s t : Lists) (k : ℕ) (m : Match) (f : Filling) : Type 0 where
+  pub entry : t.matches.now ≡ over s.matches.now (7 * s.counts.matches) (entry_of k m.deliverer m.receiver m.amount.0 f)
+  pub matched : t.counts.matches ≡ s.counts.matches + 1
+  pub lines : t.lines.now ≡ s.lines.now
+  pub line_count : t.counts.lines ≡ s.counts.lines
+  pub same : SameLists s t
+
+-- only lines were written
+pub record LinesOnly (s t : Lists) : Type 0 where
+  pub matches : t.matches.now ≡ s.matches.now
+  pub match_count : t.counts.matches ≡ s.counts.matches
+  pub same : SameLists s t
+
+-- a line of the next match was written
+pub record LineAdded (s t : Lists) (issue lots : ℕ) : Type 0 where
+  pub cells : t.lines.now ≡ over s.lines.now (3 * s.counts.lines) (s.counts.matches ∷ issue ∷ lots ∷ [])
+  pub counted : t.counts.lines ≡ s.counts.lines + 1
+  pub only : LinesOnly s t
 
 -- a line was written, if the issue has lots; then there are `count`
 pub record Lined (entry exit : List ℕ) (line number issue lots count : ℕ) : Type 0 where

@@ -25,7 +25,7 @@ pub fn move_yen(book: &mut [u64], basket: usize, m: Match, covered: Yen)
         positions + m.receiver,
         covered.0,
     );
-    if covered.0 > 0 {
+    if covered > Yen(0) {
         let pair = layout::TODAY
             + layout::SQUARE * basket
             + layout::MOST_PARTICIPANTS * m.deliverer

@@ -1,36 +1,48 @@
 // The two lists of a run.
 ghost use Rattle.std.specs.Prelude.{◌≡◌, ◌*◌, [], ◌∷◌};
-ghost use Rattle.lists.specs.Parts.{over};
-ghost use Rattle.records.specs.Listed.{entry_of, MatchRoom, LineRoom};
+ghost use Rattle.records.specs.Listed.{MatchRoom, LineRoom, MatchAdded, LineAdded};
 
 use filling::Filling;
 use matching::Match;
-use rule::Lots;
+use rule::{Counts, Lots};
 
-// "A match is basket, deliverer, receiver, matched yen, covered yen, forced issue, forced lots".
-pub fn write_match(matches: &mut [u64], number: usize, basket: u64, m: Match, f: Filling)
-    requires { MatchRoom matches.old number }
-    ensures { matches.new ≡ over matches.old (7 * number) (entry_of basket m.deliverer m.receiver m.amount.0 f) }
-{
-    let at = 7 * number;
-    let end = at + 7;
-    matches[at..end].copy_from_slice(&[
-        basket,
-        m.deliverer as u64,
-        m.receiver as u64,
-        m.amount.0,
-        f.covered.0,
-        f.forced,
-        f.forced_lots.0,
-    ]);
+// The lists that a run was lent, and how many entries of each are written.
+#[derive(Drop)]
+pub struct Lists<'a> {
+    pub matches: &'a mut [u64],
+    pub lines: &'a mut [u64],
+    pub counts: Counts,
 }
 
-// "A line is match number .., issue, lots".
-pub fn write_line(lines: &mut [u64], line: usize, number: u64, issue: u64, lots: Lots)
-    requires { LineRoom lines.old line }
-    ensures { lines.new ≡ over lines.old (3 * line) (number ∷ issue ∷ lots.0 ∷ []) }
-{
-    let at = 3 * line;
-    let end = at + 3;
-    lines[at..end].copy_from_slice(&[number, issue, lots.0]);
+impl Lists<'_> {
+    // "A match is basket, deliverer, receiver, matched yen, covered yen, forced issue, forced lots". Its lines stand before it is added.
+    pub fn add_match(&mut self, basket: u64, m: Match, f: Filling)
+        requires { MatchRoom self.old.matches.now self.old.counts.matches }
+        ensures { MatchAdded self.old self.new basket m f }
+    {
+        let at = 7 * self.counts.matches;
+        let end = at + 7;
+        self.matches[at..end].copy_from_slice(&[
+            basket,
+            m.deliverer as u64,
+            m.receiver as u64,
+            m.amount.0,
+            f.covered.0,
+            f.forced,
+            f.forced_lots.0,
+        ]);
+        self.counts.matches = self.counts.matches + 1;
+    }
+
+    // "A line is match number .., issue, lots": of the match that is added next.
+    pub fn add_line(&mut self, issue: u64, lots: Lots)
+        requires { LineRoom self.old.lines.now self.old.counts.lines }
+        ensures { LineAdded self.old self.new issue lots.0 }
+    {
+        let at = 3 * self.counts.lines;
+        let end = at + 3;
+        let number = self.counts.matches as u64;
+        self.lines[at..end].copy_from_slice(&[number, issue, lots.0]);
+        self.counts.lines = self.counts.lines + 1;
+    }
 }

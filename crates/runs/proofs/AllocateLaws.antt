@@ -18,53 +18,58 @@ use Rattle.ordering.specs.Ordered.{Ordered}
 use Rattle.orders.specs.Sizes.{issues_in}
 use Rattle.orders.specs.Orders.{Same, Orders, key_in, OrderedAt, OrderAsked, OrderFor}
 use Rattle.matched.specs.Filled.{UsableAsked, UsableLots, Fillable, filled_in, Writable, Wrote}
+use Rattle.records.specs.declared.listing.Lists.{Lists}
+use Rattle.records.specs.Listed.{SameLists}
+use Rattle.records.proofs.ListingLaws.{same-lists, same-then}
 use Rattle.runs.specs.Running.{done_to, done_at, Running, Done, AllocateAsks}
 use Rattle.runs.proofs.DoneLaws.{done-begin, done_end}
 use Rattle.runs.proofs.ReadLaws.{issues-kept}
 use Rattle.runs.proofs.RunningLaws.{may_use, usable-asks, orders-kept, order-asks, order-next, fill-asks, write-asks, running_more}
 
-module _ (k : ℕ) (b₁ : List ℕ) (made : List Entry) (rates inside allocable before orders₁ used₁ matches₁ lines₁ : List ℕ) (m₁ l₁ : ℕ) where
+module _ (k : ℕ) (b₁ : List ℕ) (made : List Entry) (rates inside allocable before orders₁ used₁ : List ℕ) (t₁ : Lists) where
   abbrev Asks : Type 0
-  Asks = AllocateAsks k b₁ made rates inside allocable before orders₁ used₁ matches₁ lines₁ m₁ l₁
+  Asks = AllocateAsks k b₁ made rates inside allocable before orders₁ used₁ t₁
 
   -- the first j matches are filled, listed and booked, whatever book and lists the run began with; the order is that of the last of them, if it lists any issue
-  pub record Allocating (b orders used matches lines order : List ℕ) (last : Option Entry) (usable : List ℕ) (m l j : ℕ) : Type 0 where
+  pub record Allocating (b orders used order : List ℕ) (t : Lists) (last : Option Entry) (usable : List ℕ) (j : ℕ) : Type 0 where
     pub here : j ≤ length made
     pub wide : length usable ≡ 32
-    pub running : (s : Asks) → Running s.b₀ s.m₀ s.l₀ (done_at (view s.b₀) s.draw k j) b used matches lines m l
+    pub running : (s : Asks) → Running s.b₀ s.m₀ s.l₀ (done_at (view s.b₀) s.draw k j) b used t
     pub kept : (s : Asks) → Orders s.b₀ orders
+    pub same : SameLists t₁ t
     pub last_is : (s : Asks) → 0 < length order → (x : Entry) → last ≡ Some x → OrderedAt s.b₀ before x (may_use inside allocable used x.deliverer) order
 
-  pub allocating-none : {order usable : List ℕ} (last : Option Entry) → order ≡ [] → length usable ≡ 32 → Allocating b₁ orders₁ used₁ matches₁ lines₁ order last usable m₁ l₁ 0
+  pub allocating-none : {order usable : List ℕ} (last : Option Entry) → order ≡ [] → length usable ≡ 32 → Allocating b₁ orders₁ used₁ order t₁ last usable 0
   allocating-none last e r = record {
     here = omega arith;
     wide = r;
-    running = λ s. subst (λ (x : List Allocation). Running s.b₀ s.m₀ s.l₀ x b₁ used₁ matches₁ lines₁ m₁ l₁) (sym (done-begin (view s.b₀) s.draw k)) s.begun.running;
+    running = λ s. subst (λ (x : List Allocation). Running s.b₀ s.m₀ s.l₀ x b₁ used₁ t₁) (sym (done-begin (view s.b₀) s.draw k)) s.begun.running;
     kept = λ s. s.begun.kept;
+    same = same-lists t₁;
     last_is = λ s t x z. absurd (omega (arith, ap length e));
   }
 
   counted : (s : Asks) → length (basket_plan (view s.b₀) s.draw k) ≡ length made
   counted s = sym (ap length s.planning.planned) ∙ length-map made match_of
 
-  pub allocating-all : {b orders used matches lines order : List ℕ} {last : Option Entry} {usable₀ : List ℕ} {m l j : ℕ} → length made ≤ j → Allocating b orders used matches lines order last usable₀ m l j
-      → (s : Asks) → Done s.b₀ s.m₀ s.l₀ (done_to (view s.b₀) s.draw (k + 1)) b orders used matches lines m l
-  allocating-all {b} {orders} {used} {matches} {lines} {order} {last} {usable₀} {m} {l} {j} h w s = record {
-    running = subst (λ (x : List Allocation). Running s.b₀ s.m₀ s.l₀ x b used matches lines m l) (done_end (view s.b₀) s.draw k j (omega (arith, counted s))) (w.running s);
+  pub allocating-all : {b orders used order : List ℕ} {t : Lists} {last : Option Entry} {usable₀ : List ℕ} {j : ℕ} → length made ≤ j → Allocating b orders used order t last usable₀ j
+      → (s : Asks) → Done s.b₀ s.m₀ s.l₀ (done_to (view s.b₀) s.draw (k + 1)) b orders used t
+  allocating-all {b} {orders} {used} {order} {t} {last} {usable₀} {j} h w s = record {
+    running = subst (λ (x : List Allocation). Running s.b₀ s.m₀ s.l₀ x b used t) (done_end (view s.b₀) s.draw k j (omega (arith, counted s))) (w.running s);
     kept = w.kept s;
   }
 
-  module _ {b orders used matches lines order : List ℕ} {last : Option Entry} {usable₀ : List ℕ} {m l j : ℕ} (w : Allocating b orders used matches lines order last usable₀ m l j) (e : Entry) (h : j < length made) (E : e ≡ get_or made j e) where
+  module _ {b orders used order : List ℕ} {t : Lists} {last : Option Entry} {usable₀ : List ℕ} {j : ℕ} (w : Allocating b orders used order t last usable₀ j) (e : Entry) (h : j < length made) (E : e ≡ get_or made j e) where
     pub usable-asked : Asks → UsableAsked b e rates inside allocable used usable₀
     usable-asked s =
         usable-asks s.b₀ s.draw s.m₀ s.l₀ s.begun.start k s.begun.basket made inside before s.planning j e h E rates allocable s.begun.tables
-        b used matches lines m l (w.running s) usable₀ w.wide
+        b used t (w.running s) usable₀ w.wide
 
     module _ {usable : List ℕ} {all : ℕ} (U : UsableLots b e inside allocable used usable all) where
       pub order-asked : Asks → OrderAsked b before last e usable orders order
       order-asked s =
           order-asks s.b₀ s.draw s.m₀ s.l₀ s.begun.start k s.begun.basket made inside before s.planning j e h E rates allocable s.begun.tables
-          b used matches lines m l (w.running s) usable all U last orders order (w.kept s) (λ x y. same y (w.last_is s x y.before y.there))
+          b used t (w.running s) usable all U last orders order (w.kept s) (λ x y. same y (w.last_is s x y.before y.there))
         where
           -- the match before is of the same deliverer and sort
           same : (y : Same last e) → OrderedAt s.b₀ before y.before (may_use inside allocable used y.before.deliverer) order
@@ -77,33 +82,34 @@ module _ (k : ℕ) (b₁ : List ℕ) (made : List Entry) (rates inside allocable
       pub fill-asked : (lots : List ℕ) → lots ≡ zeros (issues_in b) → Asks → Fillable b e rates usable all order' lots
       fill-asked lots v s =
           fill-asks s.b₀ s.draw s.m₀ s.l₀ s.begun.start k s.begun.basket made inside before s.planning j e h E rates allocable s.begun.tables
-          b used matches lines m l (w.running s) usable all U orders' order' O lots v
+          b used t (w.running s) usable all U orders' order' O lots v
 
       module _ {f : Filling} {lots : List ℕ} (A : FilledAs (filled_in b k e usable order') f lots) where
-        pub write-asked : Asks → Writable b k e f lots used matches lines m l
+        pub write-asked : Asks → Writable b k e f lots used t
         write-asked s =
             write-asks s.b₀ s.draw s.m₀ s.l₀ s.begun.start k s.begun.basket made inside before s.planning j e h E rates allocable s.begun.tables
-            b used matches lines m l (w.running s) usable all U orders' order' O f lots A
+            b used t (w.running s) usable all U orders' order' O f lots A
 
-        pub allocating-more : {b' used' matches' lines' : List ℕ} {m' l' : ℕ} → Wrote b k e f lots used matches lines m l b' used' matches' lines' m' l'
-            → Allocating b' orders' used' matches' lines' order' (Some e) usable m' l' (j + 1)
-        allocating-more {b'} {used'} {matches'} {lines'} {m'} {l'} W = record {
+        pub allocating-more : {b' used' : List ℕ} {t' : Lists} → Wrote b k e f lots used t b' used' t'
+            → Allocating b' orders' used' order' t' (Some e) usable (j + 1)
+        allocating-more {b'} {used'} {t'} W = record {
           here = omega arith;
           wide = U.wide;
           running = λ s.
               running_more s.b₀ s.draw s.m₀ s.l₀ s.begun.start k s.begun.basket made inside before s.planning j e h E rates allocable s.begun.tables
-              b used matches lines m l (w.running s) usable all U orders' order' O f lots A b' used' matches' lines' m' l' W;
+              b used t (w.running s) usable all U orders' order' O f lots A b' used' t' W;
           kept = λ s.
               orders-kept s.b₀ s.draw s.m₀ s.l₀ s.begun.start k s.begun.basket made inside before s.planning j e h E rates allocable s.begun.tables
-              b used matches lines m l (w.running s) orders' O.kept;
+              b used t (w.running s) orders' O.kept;
+          same = same-then w.same W.same;
           last_is = λ s x p z. subst (λ (q : Entry). OrderedAt s.b₀ before q (may_use inside allocable used' q.deliverer) order') (ap (λ (o : Option Entry). unwrap_or o e) z)
               (order-next s.b₀ s.draw s.m₀ s.l₀ s.begun.start k s.begun.basket made inside before s.planning j e h E rates allocable s.begun.tables
-              b used matches lines m l (w.running s) usable all U orders' order' O f lots A b' used' matches' lines' m' l' W x);
+              b used t (w.running s) usable all U orders' order' O f lots A b' used' t' W x);
         }
 
   -- ---- the lengths of what is lent stay
 
-  module _ {b orders used matches lines order : List ℕ} {last : Option Entry} {usable₀ : List ℕ} {m l j : ℕ} (w : Allocating b orders used matches lines order last usable₀ m l j) (s : Asks) where
+  module _ {b orders used order : List ℕ} {t : Lists} {last : Option Entry} {usable₀ : List ℕ} {j : ℕ} (w : Allocating b orders used order t last usable₀ j) (s : Asks) where
     -- the code has the number of issues from the book as the basket began
     pub issues-same : get_or b₁ 1 0 ≡ issues_in b
     issues-same = issues-kept s.b₀ s.begun.start.book _ b₁ s.begun.running.booked ∙ sym (issues-kept s.b₀ s.begun.start.book _ b (w.running s).booked)
@@ -119,9 +125,3 @@ module _ (k : ℕ) (b₁ : List ℕ) (made : List Entry) (rates inside allocable
 
     pub used-size : length used ≡ length used₁
     used-size = (w.running s).places ∙ sym s.begun.running.places
-
-    pub matches-size : length matches ≡ length matches₁
-    matches-size = (w.running s).match_size ∙ sym s.begun.running.match_size
-
-    pub lines-size : length lines ≡ length lines₁
-    lines-size = (w.running s).line_size ∙ sym s.begun.running.line_size

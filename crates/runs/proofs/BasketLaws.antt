@@ -20,10 +20,11 @@ use Rattle.rows.specs.Rows.{Becomes}
 use Rattle.stock.specs.Stock.{inside_of, Issues}
 use Rattle.orders.specs.Sizes.{issues_in}
 use Rattle.matched.specs.Filled.{plan_in, Plannable}
+use Rattle.records.specs.declared.listing.Lists.{Lists}
 use Rattle.runs.specs.Running.{done_to, BookedTo, Done, BasketAsks, AllocateAsks}
 use Rattle.runs.proofs.ReadLaws.{sized-kept, participants-kept, issues-kept, terms-in-kept, plan-kept, nothing-covered}
 
-module _ (k : ℕ) (b draw rates allocable orders used' matches lines : List ℕ) (m l : ℕ) (s : BasketAsks k b draw rates allocable orders used' matches lines m l) where
+module _ (k : ℕ) (b draw rates allocable orders used' : List ℕ) (t : Lists) (s : BasketAsks k b draw rates allocable orders used' t) where
   abbrev b₀ : List ℕ
   b₀ = s.b₀
 
@@ -82,7 +83,7 @@ module _ (k : ℕ) (b draw rates allocable orders used' matches lines : List ℕ
     -- ---- the matches
 
     pub allocate-asked : {made : ArrayVec Entry} {lent : List Entry} {before : List ℕ} → Planned (plan_in b draw k) made → lent ≡ made.items → before ≡ used'
-        → AllocateAsks k b lent rates inside allocable before orders used' matches lines m l
+        → AllocateAsks k b lent rates inside allocable before orders used' t
     allocate-asked p l e = record {
       b₀ = s.b₀;
       draw = draw;
@@ -99,9 +100,9 @@ module _ (k : ℕ) (b draw rates allocable orders used' matches lines : List ℕ
     }
 
     -- what the loop leaves
-    pub basket-done : {made : ArrayVec Entry} {lent : List Entry} {before : List ℕ} → Planned (plan_in b draw k) made → lent ≡ made.items → before ≡ used' → {b' orders' used'' matches' lines' : List ℕ} {m' l' : ℕ}
-        → ((t : AllocateAsks k b lent rates inside allocable before orders used' matches lines m l)
-        → Done t.b₀ t.m₀ t.l₀ (done_to (view t.b₀) t.draw (k + 1)) b' orders' used'' matches' lines' m' l')
-        → Done s.b₀ s.m₀ s.l₀ (done_to (view s.b₀) draw (k + 1)) b' orders' used'' matches' lines' m' l'
+    pub basket-done : {made : ArrayVec Entry} {lent : List Entry} {before : List ℕ} → Planned (plan_in b draw k) made → lent ≡ made.items → before ≡ used' → {b' orders' used'' : List ℕ} {t' : Lists}
+        → ((a : AllocateAsks k b lent rates inside allocable before orders used' t)
+        → Done a.b₀ a.m₀ a.l₀ (done_to (view a.b₀) a.draw (k + 1)) b' orders' used'' t')
+        → Done s.b₀ s.m₀ s.l₀ (done_to (view s.b₀) draw (k + 1)) b' orders' used'' t'
     unfolding allocate-asked
     basket-done p l e f = f (allocate-asked p l e)

@@ -38,6 +38,7 @@ use Rattle.stock.specs.Stock.{terms_in, inside_of, usable_of}
 use Rattle.orders.specs.Sizes.{participants_in, issues_in}
 use Rattle.orders.specs.Orders.{key_in, OrderedAt, OrderFor}
 use Rattle.matched.specs.Filled.{book_terms, usable_in, UsableLots, filled_in}
+use Rattle.records.specs.declared.listing.Lists.{Lists}
 use Rattle.runs.specs.Running.{done_to, done_in, done_at, Start, Running, Tables, Planning}
 use Rattle.runs.proofs.DoneLaws.{next_of, done_next, Part, part_at, part-every}
 use Rattle.runs.proofs.ReadLaws.{terms-read, notices-read, runs-read, allocable-read, terms-are, low-kept, issues-kept, terms-kept, notices-kept}
@@ -120,7 +121,7 @@ module _ (b draw m₀ l₀ : List ℕ) (S : Start b draw m₀ l₀) (k : ℕ) (b
 
   -- ---- filled as the definition fills it
 
-  module _ (rates allocable : List ℕ) (T : Tables b rates allocable) (c used' matches lines : List ℕ) (n q : ℕ) (R : Running b m₀ l₀ done c used' matches lines n q)
+  module _ (rates allocable : List ℕ) (T : Tables b rates allocable) (c used' : List ℕ) (t : Lists) (R : Running b m₀ l₀ done c used' t)
       (usable' : List ℕ) (all : ℕ) (U : UsableLots c e inside allocable used' usable' all) (orders order : List ℕ) (O : OrderFor c before e usable' all orders order) where
     used-here : (i : ℕ) → i < m → get_or used' (32 * d + i) 0 ≡ cell (used_table (view b).given (done_to (view b) draw k)) d i + used (done_in (view b) draw k j) d i
     unfolding done_at view

@@ -32,6 +32,9 @@ use Rattle.std.proofs.lemmas.List.{get_or_append_left}
 use Rattle.matched.specs.Filled.{book_terms}
 use Rattle.rows.specs.Rows.{Becomes}
 use Rattle.stock.specs.Stock.{Rows}
+use Rattle.records.specs.declared.listing.Lists.{Lists}
+use Rattle.records.specs.Listed.{SameLists}
+use Rattle.records.proofs.ListingLaws.{same-lists, same-then}
 use Rattle.records.specs.Booked.{position_at, mark_at, tally_of}
 use Rattle.orders.specs.Sizes.{participants_in, issues_in, Sized}
 use Rattle.runs.specs.Running.{done_to, BookedTo, Start, Running, Done, BasketAsks}
@@ -47,50 +50,52 @@ use Rattle.runs.proofs.NextLaws.{runnable}
 -- ---- the seven baskets
 
 -- those before k are done
-pub record Baskets (b draw matches₀ lines₀ : List ℕ) (c orders used' matches lines : List ℕ) (m l k : ℕ) : Type 0 where
+pub record Baskets (b draw : List ℕ) (t₀ : Lists) (c orders used' : List ℕ) (t : Lists) (k : ℕ) : Type 0 where
   pub here : k ≤ 7
-  pub done : Done b matches₀ lines₀ (done_to (view b) draw k) c orders used' matches lines m l
+  pub done : Done b t₀.matches.now t₀.lines.now (done_to (view b) draw k) c orders used' t
+  pub same : SameLists t₀ t
 
-module _ (b draw rates allocable matches₀ lines₀ : List ℕ) (h : BasketsAsk b draw rates allocable matches₀ lines₀) where
-  nothing-done : Running b matches₀ lines₀ [] b (zeros 384) matches₀ lines₀ 0 0
+module _ (b draw rates allocable : List ℕ) (t₀ : Lists) (h : BasketsAsk b draw rates allocable t₀) where
+  nothing-done : Running b t₀.matches.now t₀.lines.now [] b (zeros 384) t₀
   unfolding used match_list line_list lines_from
   nothing-done = record {
     booked = booked-none b h.start.book;
     places = refl;
     gone = λ d i x v. get_or-zeros 384 (32 * d + i);
     match_size = refl;
-    entries = sym (over_none matches₀ 0);
+    entries = sym (over_none t₀.matches.now 0);
     line_size = refl;
-    rows = sym (over_none lines₀ 0);
-    match_count = refl;
-    line_count = refl;
+    rows = sym (over_none t₀.lines.now 0);
+    match_count = h.no_match;
+    line_count = h.no_line;
   }
 
-  pub baskets-none : Baskets b draw matches₀ lines₀ b (table 384 (λ i. 32)) (zeros 384) matches₀ lines₀ 0 0 0
+  pub baskets-none : Baskets b draw t₀ b (table 384 (λ i. 32)) (zeros 384) t₀ 0
   baskets-none = record {
     here = omega arith;
     done = record {
-      running = subst (λ (x : List Allocation). Running b matches₀ lines₀ x b (zeros 384) matches₀ lines₀ 0 0) (sym (done_none (view b) draw)) nothing-done;
+      running = subst (λ (x : List Allocation). Running b t₀.matches.now t₀.lines.now x b (zeros 384) t₀) (sym (done_none (view b) draw)) nothing-done;
       kept = orders-begin b;
     };
+    same = same-lists t₀;
   }
 
-  module _ {c orders used' matches lines : List ℕ} {m l k : ℕ} (w : Baskets b draw matches₀ lines₀ c orders used' matches lines m l k) where
-    pub basket-asked : k < 7 → BasketAsks k c draw rates allocable orders used' matches lines m l
-    basket-asked x = record { b₀ = b; m₀ = matches₀; l₀ = lines₀; begun = record { start = h.start; basket = x; tables = h.tables; running = w.done.running; kept = w.done.kept } }
+  module _ {c orders used' : List ℕ} {t : Lists} {k : ℕ} (w : Baskets b draw t₀ c orders used' t k) where
+    pub basket-asked : k < 7 → BasketAsks k c draw rates allocable orders used' t
+    basket-asked x = record { b₀ = b; m₀ = t₀.matches.now; l₀ = t₀.lines.now; begun = record { start = h.start; basket = x; tables = h.tables; running = w.done.running; kept = w.done.kept } }
 
-    pub baskets-more : (x : k < 7) {c' orders' used'' matches' lines' : List ℕ} {m' l' : ℕ}
-        → ((s : BasketAsks k c draw rates allocable orders used' matches lines m l) → Done s.b₀ s.m₀ s.l₀ (done_to (view s.b₀) draw (k + 1)) c' orders' used'' matches' lines' m' l')
-        → Baskets b draw matches₀ lines₀ c' orders' used'' matches' lines' m' l' (k + 1)
+    pub baskets-more : (x : k < 7) {c' orders' used'' : List ℕ} {t' : Lists}
+        → ((s : BasketAsks k c draw rates allocable orders used' t) → Done s.b₀ s.m₀ s.l₀ (done_to (view s.b₀) draw (k + 1)) c' orders' used'' t')
+        → SameLists t t' → Baskets b draw t₀ c' orders' used'' t' (k + 1)
     unfolding basket-asked
-    baskets-more x f = record { here = omega arith; done = f (basket-asked x) }
+    baskets-more x f e = record { here = omega arith; done = f (basket-asked x); same = same-then w.same e }
 
-    pub baskets-all : 7 ≤ k → BasketsDone b draw matches₀ lines₀ c matches lines m l
+    pub baskets-all : 7 ≤ k → BasketsDone b draw t₀.matches.now t₀.lines.now c t
     baskets-all x =
         let e : k ≡ 7 = omega (arith, w.here) in
         record {
           used = used';
-          running = subst (λ (d : List Allocation). Running b matches₀ lines₀ d c used' matches lines m l) (ap (done_to (view b) draw) e ∙ done_all (view b) draw) w.done.running;
+          running = subst (λ (d : List Allocation). Running b t₀.matches.now t₀.lines.now d c used' t) (ap (done_to (view b) draw) e ∙ done_all (view b) draw) w.done.running;
         }
 
     pub baskets-book : length c ≡ length b
@@ -292,15 +297,17 @@ module _ (b draw m₀ l₀ : List ℕ) (h : Start b draw m₀ l₀) where
   pub stock-asked : (cells : List ℕ) → length cells ≡ 384 → Rows b cells
   stock-asked cells e = record { book = h.book.readable.size; participants = h.book.sizes.few; issues = h.book.sizes.most; places = e }
 
-  module _ {c matches lines : List ℕ} {m l : ℕ} (w : BasketsDone b draw m₀ l₀ c matches lines m l) where
+  module _ {c : List ℕ} {t : Lists} (w : BasketsDone b draw m₀ l₀ c t) where
     pub clear-asked : Sized c
     clear-asked = sized-kept b h.book (allocations (view b) draw) c w.running.booked
 
-    pub run-done : {d : List ℕ} → Cleared c d → Ran b draw m₀ l₀ (set d 2 (get_or d 2 0 + 1)) matches lines m l
-    run-done {d} v = record {
+    -- the lists that were lent are those that the run wrote
+    pub run-done : {d matches lines : List ℕ} → Cleared c d → matches ≡ t.matches.now → lines ≡ t.lines.now
+        → Ran b draw m₀ l₀ (set d 2 (get_or d 2 0 + 1)) matches lines t.counts.matches t.counts.lines
+    run-done {d} v x y = record {
       book = book-left b draw h.book (runnable b draw m₀ l₀ h) c d w.running.booked v;
-      entries = w.running.entries;
-      rows = w.running.rows;
+      entries = x ∙ w.running.entries;
+      rows = y ∙ w.running.rows;
       match_count = w.running.match_count;
       line_count = w.running.line_count;
     }

@@ -40,6 +40,7 @@ use Rattle.orders.specs.Sizes.{participants_in, issues_in}
 use Rattle.orders.specs.Orders.{Same, notified_in, Orders, OrderedAt, OrderAsked, OrderFor}
 use Rattle.matched.specs.Filled.{book_terms, UsableAsked, UsableLots, Fillable, filled_in, lots_with, Writable, Wrote}
 use Rattle.orders.proofs.OrderLaws.{orders-moved}
+use Rattle.records.specs.declared.listing.Lists.{Lists}
 use Rattle.runs.specs.Running.{done_at, Start, Running, Tables, Planning}
 use Rattle.runs.proofs.DoneLaws.{next_of, Part, part-total, part_length}
 use Rattle.runs.proofs.BookedLaws.{booked-more, more_yes, more_no}
@@ -194,7 +195,7 @@ module _ (b draw m₀ l₀ : List ℕ) (S : Start b draw m₀ l₀) (k : ℕ) (b
   unfolding view
   forced = omega (arith, z.forced, z.issues)
 
-  module _ (c used' matches lines : List ℕ) (n q : ℕ) (R : Running b m₀ l₀ done c used' matches lines n q) where
+  module _ (c used' : List ℕ) (t : Lists) (R : Running b m₀ l₀ done c used' t) where
     -- ---- what is asked
 
     issues-same : issues_in c ≡ m
@@ -271,7 +272,7 @@ module _ (b draw m₀ l₀ : List ℕ) (S : Start b draw m₀ l₀) (k : ℕ) (b
 
       module _ (f : Filling) (lots : List ℕ) (A : FilledAs (filled_in c k e usable' order) f lots) where
         F : FilledAs a.filled f lots
-        F = subst (λ (x : Filled). FilledAs x f lots) (next-filled b draw m₀ l₀ S k basket made inside before P j e l E rates allocable T c used' matches lines n q R usable' all U orders order O) A
+        F = subst (λ (x : Filled). FilledAs x f lots) (next-filled b draw m₀ l₀ S k basket made inside before P j e l E rates allocable T c used' t R usable' all U orders order O) A
 
         row-size : length lots ≡ m
         row-size = ap length F.lots_are ∙ issues
@@ -279,8 +280,8 @@ module _ (b draw m₀ l₀ : List ℕ) (S : Start b draw m₀ l₀) (k : ℕ) (b
         all_is : (i : ℕ) → get_or (lots_with f lots) i 0 ≡ all_lots a.filled i
         all_is = all-lots a.filled f lots F forced
 
-        lines-is : lines_for n (lots_with f lots) ≡ lines_of n a
-        lines-is = lines_are n (lots_with f lots) a (all-size a.filled f lots F forced) all_is
+        lines-is : lines_for t.counts.matches (lots_with f lots) ≡ lines_of t.counts.matches a
+        lines-is = lines_are t.counts.matches (lots_with f lots) a (all-size a.filled f lots F forced) all_is
 
         used-at : (i : ℕ) → i < m → get_or used' (32 * d + i) 0 ≡ used done d i
         used-at i x = R.gone d i deliverer x
@@ -288,7 +289,7 @@ module _ (b draw m₀ l₀ : List ℕ) (S : Start b draw m₀ l₀) (k : ℕ) (b
         lines_fit : 3 * length (line_list done) + 3 * length (lines_of (length done) a) ≤ 7392
         lines_fit = omega (arith, lines-few, ap length (lines_more done a), length-append (line_list done) (lines_of (length done) a))
 
-        pub write-asks : Writable c k e f lots used' matches lines n q
+        pub write-asks : Writable c k e f lots used' t
         write-asks = record {
           basket = basket;
           match_room = omega (arith, R.match_count, matches-few, R.match_size, S.match_places);
@@ -314,7 +315,7 @@ module _ (b draw m₀ l₀ : List ℕ) (S : Start b draw m₀ l₀) (k : ℕ) (b
 
         -- ---- what is left
 
-        module _ (c' used'' matches' lines' : List ℕ) (n' q' : ℕ) (W : Wrote c k e f lots used' matches lines n q c' used'' matches' lines' n' q') where
+        module _ (c' used'' : List ℕ) (t' : Lists) (W : Wrote c k e f lots used' t c' used'' t') where
           yen : YenMoved c W.between a.basket a.match.deliverer a.match.receiver a.filled.covered
           unfolding next_of allocate
           yen = subst (λ (x : ℕ). YenMoved c W.between k d r x) F.covered W.yen
@@ -351,17 +352,17 @@ module _ (b draw m₀ l₀ : List ℕ) (S : Start b draw m₀ l₀) (k : ℕ) (b
               ordered-moved issues-same (λ i v. ap (λ (w : ℕ). order_key pref w (get_or before (32 * d + i) 0)) (notice-same d i deliverer-few (omega (arith, issues-same))))
               (λ i v. less-usable i (omega (arith, issues-same))) (O.listed x)
 
-          pub running_more : Running b m₀ l₀ (done_at (view b) draw k (j + 1)) c' used'' matches' lines' n' q'
+          pub running_more : Running b m₀ l₀ (done_at (view b) draw k (j + 1)) c' used'' t'
           running_more =
-              let both : (lines' ≡ over l₀ 0 (joined (line_list (done ++ (a ∷ []))))) × (q' ≡ length (line_list (done ++ (a ∷ [])))) =
-              rows_more l₀ lines lines' done a n q q' (lots_with f lots) R.rows R.match_count R.line_count (omega (arith, lines_fit, S.line_places)) lines-is W.listed in
-              subst (λ (x : List Allocation). Running b m₀ l₀ x c' used'' matches' lines' n' q') (sym (next-is b draw m₀ l₀ S k basket made inside before P j e l E)) (record {
+              let both : (t'.lines.now ≡ over l₀ 0 (joined (line_list (done ++ (a ∷ []))))) × (t'.counts.lines ≡ length (line_list (done ++ (a ∷ [])))) =
+              rows_more l₀ t.lines.now t'.lines.now done a t.counts.matches t.counts.lines t'.counts.lines (lots_with f lots) R.rows R.match_count R.line_count (omega (arith, lines_fit, S.line_places)) lines-is W.listed in
+              subst (λ (x : List Allocation). Running b m₀ l₀ x c' used'' t') (sym (next-is b draw m₀ l₀ S k basket made inside before P j e l E)) (record {
                 booked = booked-more b S.book draw h done a part z c W.between c' (lots_with f lots) R.booked yen moved (all-size a.filled f lots F forced ∙ issues) all_is;
                 places = W.gone.size ∙ R.places;
                 gone = gone;
-                match_size = ap length W.entry ∙ length_over matches (entry_of k d r e.amount.0 f) (7 * n) (omega (arith, write-asks.match_room)) ∙ R.match_size;
-                line_size = ap length W.listed.cells ∙ length_over lines (joined (lines_for n (lots_with f lots))) (3 * q) (omega (arith, write-asks.lots_asked.room, cells-for n (lots_with f lots))) ∙ R.line_size;
-                entries = entries-more m₀ matches matches' done a n R.entries R.match_count (omega (arith, matches-few, S.match_places)) (W.entry ∙ ap (over matches (7 * n)) entry);
+                match_size = ap length W.entry ∙ length_over t.matches.now (entry_of k d r e.amount.0 f) (7 * t.counts.matches) (omega (arith, write-asks.match_room)) ∙ R.match_size;
+                line_size = ap length W.listed.cells ∙ length_over t.lines.now (joined (lines_for t.counts.matches (lots_with f lots))) (3 * t.counts.lines) (omega (arith, write-asks.lots_asked.room, cells-for t.counts.matches (lots_with f lots))) ∙ R.line_size;
+                entries = entries-more m₀ t.matches.now t'.matches.now done a t.counts.matches R.entries R.match_count (omega (arith, matches-few, S.match_places)) (W.entry ∙ ap (over t.matches.now (7 * t.counts.matches)) entry);
                 rows = both.0;
                 match_count = W.matched ∙ omega (arith, R.match_count, length-append done (a ∷ []));
                 line_count = both.1;

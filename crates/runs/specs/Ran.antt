@@ -4,18 +4,21 @@ use Rattle.lists.specs.Folds.{joined}
 use Rattle.lists.specs.Parts.{over}
 use Rattle.rule.specs.Run.{allocations, ran, match_list, line_list}
 use Rattle.rule.specs.Layout.{notices_at, view, stored}
+use Rattle.records.specs.declared.listing.Lists.{Lists}
 use Rattle.orders.specs.Sizes.{participants_in, issues_in}
 use Rattle.runs.specs.Running.{Start, Running, Tables}
 
--- the seven baskets: a run may begin, and its tables are there
-pub record BasketsAsk (b draw rates allocable matches lines : List ℕ) : Type 0 where
-  pub start : Start b draw matches lines
+-- the seven baskets: a run may begin, its tables are there, and nothing is listed
+pub record BasketsAsk (b draw rates allocable : List ℕ) (t : Lists) : Type 0 where
+  pub start : Start b draw t.matches.now t.lines.now
+  pub no_match : t.counts.matches ≡ 0
+  pub no_line : t.counts.lines ≡ 0
   pub tables : Tables b rates allocable
 
 -- all matches of the run are filled, listed and booked
-pub record BasketsDone (b draw m₀ l₀ : List ℕ) (b' matches lines : List ℕ) (m l : ℕ) : Type 0 where
+pub record BasketsDone (b draw m₀ l₀ b' : List ℕ) (t : Lists) : Type 0 where
   pub used : List ℕ
-  pub running : Running b m₀ l₀ (allocations (view b) draw) b' used matches lines m l
+  pub running : Running b m₀ l₀ (allocations (view b) draw) b' used t
 
 -- the notices of the day's participants and issues are 0, all else is as before
 pub record Cleared (b c : List ℕ) : Type 0 where

@@ -14,6 +14,7 @@ use Rattle.value.specs.Rated.{Rates}
 use Rattle.matching.specs.Plans.{match_of}
 use Rattle.matching.specs.declared.Match.{Match as Entry}
 use Rattle.stock.specs.Stock.{inside_of, Allocable}
+use Rattle.records.specs.declared.listing.Lists.{Lists}
 use Rattle.records.specs.Booked.{position_at, mark_at, tally_of}
 use Rattle.orders.specs.Sizes.{participants_in, issues_in}
 use Rattle.orders.specs.Orders.{Orders}
@@ -68,21 +69,21 @@ pub record Start (b draw matches lines : List ℕ) : Type 0 where
   pub match_places : match_size * most_matches ≤ length matches
   pub line_places : line_size * most_lines ≤ length lines
 
--- from book b₀ and lists m₀ and l₀, after the matches of done: the book, the lots used, the lists, and how many of each
-pub record Running (b₀ m₀ l₀ : List ℕ) (done : List Allocation) (b used' matches lines : List ℕ) (m l : ℕ) : Type 0 where
+-- from book b₀ and lists m₀ and l₀, after the matches of done: the book, the lots used, and the lists with their counts
+pub record Running (b₀ m₀ l₀ : List ℕ) (done : List Allocation) (b used' : List ℕ) (t : Lists) : Type 0 where
   pub booked : BookedTo b₀ done b
   pub places : length used' ≡ 384
   pub gone : (d i : ℕ) → d < participants_in b₀ → i < issues_in b₀ → get_or used' (32 * d + i) 0 ≡ used done d i
-  pub match_size : length matches ≡ length m₀
-  pub entries : matches ≡ over m₀ 0 (joined (match_list done))
-  pub line_size : length lines ≡ length l₀
-  pub rows : lines ≡ over l₀ 0 (joined (line_list done))
-  pub match_count : m ≡ length done
-  pub line_count : l ≡ length (line_list done)
+  pub match_size : length t.matches.now ≡ length m₀
+  pub entries : t.matches.now ≡ over m₀ 0 (joined (match_list done))
+  pub line_size : length t.lines.now ≡ length l₀
+  pub rows : t.lines.now ≡ over l₀ 0 (joined (line_list done))
+  pub match_count : t.counts.matches ≡ length done
+  pub line_count : t.counts.lines ≡ length (line_list done)
 
 -- and the deliverers' issues by notified lots
-pub record Done (b₀ m₀ l₀ : List ℕ) (done : List Allocation) (b orders used' matches lines : List ℕ) (m l : ℕ) : Type 0 where
-  pub running : Running b₀ m₀ l₀ done b used' matches lines m l
+pub record Done (b₀ m₀ l₀ : List ℕ) (done : List Allocation) (b orders used' : List ℕ) (t : Lists) : Type 0 where
+  pub running : Running b₀ m₀ l₀ done b used' t
   pub kept : Orders b₀ orders
 
 -- ---- what a basket's step and its loop ask
@@ -92,19 +93,19 @@ pub record Tables (b rates allocable : List ℕ) : Type 0 where
   pub rated : Rates (book_terms b) rates
   pub stock : Allocable b allocable
 
-pub record Begun (b₀ draw m₀ l₀ : List ℕ) (k : ℕ) (b rates allocable orders used' matches lines : List ℕ) (m l : ℕ) : Type 0 where
+pub record Begun (b₀ draw m₀ l₀ : List ℕ) (k : ℕ) (b rates allocable orders used' : List ℕ) (t : Lists) : Type 0 where
   pub start : Start b₀ draw m₀ l₀
   pub basket : k < 7
   pub tables : Tables b₀ rates allocable
-  pub running : Running b₀ m₀ l₀ (done_to (view b₀) draw k) b used' matches lines m l
+  pub running : Running b₀ m₀ l₀ (done_to (view b₀) draw k) b used' t
   pub kept : Orders b₀ orders
 
 -- some book and lists from which the run began
-pub record BasketAsks (k : ℕ) (b draw rates allocable orders used' matches lines : List ℕ) (m l : ℕ) : Type 0 where
+pub record BasketAsks (k : ℕ) (b draw rates allocable orders used' : List ℕ) (t : Lists) : Type 0 where
   pub b₀ : List ℕ
   pub m₀ : List ℕ
   pub l₀ : List ℕ
-  pub begun : Begun b₀ draw m₀ l₀ k b rates allocable orders used' matches lines m l
+  pub begun : Begun b₀ draw m₀ l₀ k b rates allocable orders used' t
 
 -- the plan of basket k, its issues, and the lots used before it
 pub record Planning (b₀ draw : List ℕ) (k : ℕ) (made : List Entry) (inside before : List ℕ) : Type 0 where
@@ -114,10 +115,10 @@ pub record Planning (b₀ draw : List ℕ) (k : ℕ) (made : List Entry) (inside
   pub earlier : length before ≡ 384
   pub before_at : (d i : ℕ) → d < participants_in b₀ → i < issues_in b₀ → get_or before (32 * d + i) 0 ≡ used (done_to (view b₀) draw k) d i
 
-pub record AllocateAsks (k : ℕ) (b : List ℕ) (made : List Entry) (rates inside allocable before orders used' matches lines : List ℕ) (m l : ℕ) : Type 0 where
+pub record AllocateAsks (k : ℕ) (b : List ℕ) (made : List Entry) (rates inside allocable before orders used' : List ℕ) (t : Lists) : Type 0 where
   pub b₀ : List ℕ
   pub draw : List ℕ
   pub m₀ : List ℕ
   pub l₀ : List ℕ
-  pub begun : Begun b₀ draw m₀ l₀ k b rates allocable orders used' matches lines m l
+  pub begun : Begun b₀ draw m₀ l₀ k b rates allocable orders used' t
   pub planning : Planning b₀ draw k made inside before

@@ -1,11 +1,12 @@
 // A basket's step of a run: its matches filled one after the other.
 ghost use Rattle.std.specs.Prelude.{◌+◌};
 ghost use Rattle.rule.specs.Layout.{view};
+ghost use Rattle.records.specs.Listed.{SameLists};
 ghost use Rattle.runs.specs.Running.{done_to, Done, BasketAsks, AllocateAsks};
 
 use matching::{Match, Plan};
 use ordering::Order;
-use rule::Counts;
+use records::listing::Lists;
 
 // The matches of the basket, filled one after the other.
 fn allocate(
@@ -18,19 +19,17 @@ fn allocate(
     before: &[u64],
     orders: &mut [u64],
     used: &mut [u64],
-    matches: &mut [u64],
-    lines: &mut [u64],
-    counts: Counts,
-) -> Counts
-    requires { AllocateAsks basket book.old plan.now rates.now inside.now allocable.now before.now orders.old used.old matches.old lines.old counts.matches counts.lines }
-    ensures { (s : AllocateAsks basket book.old plan.now rates.now inside.now allocable.now before.now orders.old used.old matches.old lines.old counts.matches counts.lines)
-        → Done s.b₀ s.m₀ s.l₀ (done_to (view s.b₀) s.draw (basket + 1)) book.new orders.new used.new matches.new lines.new result.matches result.lines }
+    lists: &mut Lists,
+)
+    requires { AllocateAsks basket book.old plan.now rates.now inside.now allocable.now before.now orders.old used.old lists.old }
+    ensures done { (s : AllocateAsks basket book.old plan.now rates.now inside.now allocable.now before.now orders.old used.old lists.old)
+        → Done s.b₀ s.m₀ s.l₀ (done_to (view s.b₀) s.draw (basket + 1)) book.new orders.new used.new lists.new }
+    ensures same { SameLists lists.old lists.new }
 {
     let issues = book[layout::ISSUES] as usize;
     let mut order = Order::new();
     let mut last = None;
     let mut usable = [0u64; 32];
-    let mut done = counts;
     for m in plan {
         let mut places = [0u64; 32];
         let lots = &mut places[..issues];
@@ -46,20 +45,9 @@ fn allocate(
             &mut order,
         );
         let f = matched::fill_next(&*book, basket, *m, rates, &usable, all, &order, &mut *lots);
-        done = matched::write_next(
-            &mut *book,
-            basket,
-            *m,
-            f,
-            lots,
-            &mut *used,
-            &mut *matches,
-            &mut *lines,
-            done,
-        );
+        matched::write_next(&mut *book, basket, *m, f, lots, &mut *used, &mut *lists);
         last = Some(*m);
     }
-    done
 }
 
 // A basket's matches: planned, filled, listed and booked. `used` are the lots used in the run so far; `before` is lent for those used
@@ -73,13 +61,12 @@ pub fn run_basket(
     orders: &mut [u64],
     used: &mut [u64],
     before: &mut [u64; 384],
-    matches: &mut [u64],
-    lines: &mut [u64],
-    counts: Counts,
-) -> Counts
-    requires { BasketAsks basket book.old draw.now rates.now allocable.now orders.old used.old matches.old lines.old counts.matches counts.lines }
-    ensures { (s : BasketAsks basket book.old draw.now rates.now allocable.now orders.old used.old matches.old lines.old counts.matches counts.lines)
-        → Done s.b₀ s.m₀ s.l₀ (done_to (view s.b₀) draw.now (basket + 1)) book.new orders.new used.new matches.new lines.new result.matches result.lines }
+    lists: &mut Lists,
+)
+    requires { BasketAsks basket book.old draw.now rates.now allocable.now orders.old used.old lists.old }
+    ensures done { (s : BasketAsks basket book.old draw.now rates.now allocable.now orders.old used.old lists.old)
+        → Done s.b₀ s.m₀ s.l₀ (done_to (view s.b₀) draw.now (basket + 1)) book.new orders.new used.new lists.new }
+    ensures same { SameLists lists.old lists.new }
 {
     let issues = book[layout::ISSUES] as usize;
     let mut plan = Plan::new();
@@ -97,8 +84,6 @@ pub fn run_basket(
         &before[..],
         orders,
         used,
-        matches,
-        lines,
-        counts,
-    )
+        lists,
+    );
 }

@@ -1,9 +1,11 @@
 // A run on a sound book: the seven baskets, and what they leave.
 ghost use Rattle.orders.specs.Sizes.{Sized};
+ghost use Rattle.records.specs.Listed.{SameLists};
 ghost use Rattle.runs.specs.Running.{Start};
 ghost use Rattle.runs.specs.Ran.{BasketsAsk, BasketsDone, Cleared, Ran};
 
 use crate::basket;
+use records::listing::Lists;
 use rule::Counts;
 
 // "Basket by basket, A first".
@@ -12,23 +14,19 @@ fn run_baskets(
     draw: &[u64],
     rates: &[u64; 32],
     allocable: &[u64],
-    matches: &mut [u64],
-    lines: &mut [u64],
-) -> Counts
-    requires { BasketsAsk book.old draw.now rates.now allocable.now matches.old lines.old }
-    ensures { BasketsDone book.old draw.now matches.old lines.old book.new matches.new lines.new result.matches result.lines }
+    lists: &mut Lists,
+)
+    requires { BasketsAsk book.old draw.now rates.now allocable.now lists.old }
+    ensures done { BasketsDone book.old draw.now lists.old.matches.now lists.old.lines.now book.new lists.new }
+    ensures same { SameLists lists.old lists.new }
 {
     let mut used = [0u64; 384];
     // one for all baskets: zeros for each would be overwritten at once
     let mut before = [0u64; 384];
     // no row of issues is ranked yet
     let mut orders = [32u64; 384];
-    let mut done = Counts {
-        matches: 0,
-        lines: 0,
-    };
-    for k in 0usize..7 {
-        done = basket::run_basket(
+    for k in 0..layout::BASKETS {
+        basket::run_basket(
             &mut *book,
             k,
             draw,
@@ -37,12 +35,9 @@ fn run_baskets(
             &mut orders[..],
             &mut used[..],
             &mut before,
-            &mut *matches,
-            &mut *lines,
-            done,
+            &mut *lists,
         );
     }
-    done
 }
 
 // "Every accepted run clears all notices".
@@ -69,8 +64,16 @@ pub fn run(book: &mut [u64], draw: &[u64], matches: &mut [u64], lines: &mut [u64
     value::rates_of(&book[layout::TERMS..layout::RECEIPTS], &mut rates[..issues]);
     let mut allocable = [0u64; 384];
     stock::allocable_rows(&*book, &mut allocable[..]);
-    let counts = run_baskets(&mut *book, draw, &rates, &allocable[..], matches, lines);
+    let mut lists = Lists {
+        matches,
+        lines,
+        counts: Counts {
+            matches: 0,
+            lines: 0,
+        },
+    };
+    run_baskets(&mut *book, draw, &rates, &allocable[..], &mut lists);
     clear_notices(&mut *book);
     book[layout::RUNS] = book[layout::RUNS] + 1;
-    counts
+    lists.counts
 }

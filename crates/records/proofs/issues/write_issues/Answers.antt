@@ -3,14 +3,14 @@ use Rattle.records.proofs.IssueLaws.{issues-none, issue-asks, issues-more, issue
 use Rattle.records.proofs.issues.write_issues.Goals as goal
 
 pub loop-issue-init : goal.loop-issue-init
-loop-issue-init c = issues-none _ _ _ _ _ _ _ _
+loop-issue-init c = issues-none _ _ _ _ _
 
-pub write_issue-line-requires : goal.write_issue-line-requires
-write_issue-line-requires c = issue-asks _ _ _ _ _ _ _ _ c.requires c.loop-issue.invariant (omega arith)
+pub write_issue-requires : goal.write_issue-requires
+write_issue-requires c = issue-asks _ _ _ _ _ c.requires c.loop-issue.invariant (omega arith)
 
 pub loop-issue-preserved : goal.loop-issue-preserved
 loop-issue-preserved c =
-    issues-more _ _ _ _ _ _ _ _ c.requires c.loop-issue.invariant (omega arith) c.write_issue-line.ensures
+    issues-more _ _ _ _ _ c.requires c.loop-issue.invariant (omega arith) c.write_issue.ensures
 
 pub shape_of-book : goal.shape_of-book
 shape_of-book c = c.loop-issue.invariant.moved.size
@@ -18,8 +18,5 @@ shape_of-book c = c.loop-issue.invariant.moved.size
 pub shape_of-used : goal.shape_of-used
 shape_of-used c = c.loop-issue.invariant.gone.size
 
-pub shape_of-lines : goal.shape_of-lines
-shape_of-lines c = c.loop-issue.invariant.listed.size
-
 pub returns : goal.returns
-returns c = issues-all _ _ _ _ _ _ _ _ c.requires c.loop-issue.invariant (omega arith)
+returns c = issues-all _ _ _ _ _ c.requires c.loop-issue.invariant (omega arith)

@@ -4,7 +4,7 @@ use Rattle.records.proofs.IssueLaws.{WrittenTo}
 use Rattle.records.proofs.issues.write_issues.Given as goal
 
 abbrev pub invariant-loop-issue : goal.invariant-loop-issue
-invariant-loop-issue l = WrittenTo l.initial.book l.initial.used l.initial.lines l.m.deliverer l.m.receiver l.number l.first l.lots l.issue l.book l.used l.lines l.line
+invariant-loop-issue l = WrittenTo l.initial.book l.initial.used l.initial.lists l.m l.lots l.issue l.book l.used l.lists
 
 abbrev pub decreases-loop-issue : goal.decreases-loop-issue
 decreases-loop-issue l = l.issue-end - l.issue

@@ -8,24 +8,24 @@ pub bounds-book-1 : goal.bounds-book-1
 bounds-book-1 c = omega (arith, c.requires.begun.running.booked.size)
 
 pub plan_basket-requires : goal.plan_basket-requires
-plan_basket-requires c = plan-asked _ _ _ _ _ _ _ _ _ _ _ c.requires
+plan_basket-requires c = plan-asked _ _ _ _ _ _ _ _ c.requires
 
 pub slice_bounds-inside-end : goal.slice_bounds-inside-end
-slice_bounds-inside-end c = issues_most _ _ _ _ _ _ _ _ _ _ _ c.requires
+slice_bounds-inside-end c = issues_most _ _ _ _ _ _ _ _ c.requires
 
 pub slice_bounds-mark_issues-end : goal.slice_bounds-mark_issues-end
-slice_bounds-mark_issues-end c = sym (length-take-le _ _ (issues_most _ _ _ _ _ _ _ _ _ _ _ c.requires))
+slice_bounds-mark_issues-end c = sym (length-take-le _ _ (issues_most _ _ _ _ _ _ _ _ c.requires))
 
 pub mark_issues-requires : goal.mark_issues-requires
-mark_issues-requires c = marks-asked _ _ _ _ _ _ _ _ _ _ _ c.requires
+mark_issues-requires c = marks-asked _ _ _ _ _ _ _ _ c.requires
 
 pub copy_from_slice-requires : goal.copy_from_slice-requires
 copy_from_slice-requires c = omega (arith, c.requires.begun.running.places)
 
 pub allocate-requires : goal.allocate-requires
 allocate-requires c =
-    allocate-asked _ _ _ _ _ _ _ _ _ _ _ c.requires c.mark_issues.ensures c.plan_basket.ensures c.as_slice.ensures.value c.copy_from_slice.ensures.after
+    allocate-asked _ _ _ _ _ _ _ _ c.requires c.mark_issues.ensures c.plan_basket.ensures c.as_slice.ensures.value c.copy_from_slice.ensures.after
 
-pub returns : goal.returns
-returns c = λ s.
-    basket-done _ _ _ _ _ _ _ _ _ _ _ s c.mark_issues.ensures c.plan_basket.ensures c.as_slice.ensures.value c.copy_from_slice.ensures.after c.allocate.ensures
+pub returns-clause-done : goal.returns-clause-done
+returns-clause-done c = λ s.
+    basket-done _ _ _ _ _ _ _ _ s c.mark_issues.ensures c.plan_basket.ensures c.as_slice.ensures.value c.copy_from_slice.ensures.after c.allocate.ensures.done

@@ -1,5 +1,5 @@
 -- `runs::whole::run` meets its contract. Assumes nothing.
-use Rattle.std.proofs.Common.{◌∙◌, arith, length-set, refl, sym}
+use Rattle.std.proofs.Common.{◌∙◌, ap, arith, length, length-set, refl, rules, sym}
 use Rattle.runs.proofs.RanLaws.{rates-lent, rates-back, stock-asked, clear-asked, run-done, runs-few}
 use Rattle.runs.proofs.whole.run.Goals as goal
 
@@ -18,29 +18,29 @@ allocable_rows-requires c = stock-asked _ _ _ _ c.requires _ refl
 pub slice_bounds-run_baskets-end : goal.slice_bounds-run_baskets-end
 slice_bounds-run_baskets-end c = sym c.allocable_rows.ensures.places
 
-pub run_baskets-counts-requires : goal.run_baskets-counts-requires
-run_baskets-counts-requires c = record { start = c.requires; tables = record { rated = rates-back _ _ _ _ c.requires _ refl _ c.rates_of.auto.rates c.rates_of.ensures; stock = c.allocable_rows.ensures } }
+pub run_baskets-requires : goal.run_baskets-requires
+run_baskets-requires c = record { start = c.requires; no_match = refl; no_line = refl; tables = record { rated = rates-back _ _ _ _ c.requires _ refl _ c.rates_of.auto.rates c.rates_of.ensures; stock = c.allocable_rows.ensures } }
 
 pub clear_notices-requires : goal.clear_notices-requires
-clear_notices-requires c = clear-asked _ _ _ _ c.requires c.run_baskets-counts.ensures
+clear_notices-requires c = clear-asked _ _ _ _ c.requires c.run_baskets.ensures.done
 
 pub bounds-book-2 : goal.bounds-book-2
-bounds-book-2 c = omega (arith, (clear-asked _ _ _ _ c.requires c.run_baskets-counts.ensures).cells, c.clear_notices.ensures.size)
+bounds-book-2 c = omega (arith, (clear-asked _ _ _ _ c.requires c.run_baskets.ensures.done).cells, c.clear_notices.ensures.size)
 
 pub overflow_add-book : goal.overflow_add-book
-overflow_add-book c = omega (arith, runs-few _ _ _ _ c.requires c.run_baskets-counts.ensures c.clear_notices.ensures)
+overflow_add-book c = omega (arith, runs-few _ _ _ _ c.requires c.run_baskets.ensures.done c.clear_notices.ensures)
 
 pub bounds-book-2-2 : goal.bounds-book-2-2
-bounds-book-2-2 c = omega (arith, (clear-asked _ _ _ _ c.requires c.run_baskets-counts.ensures).cells, c.clear_notices.ensures.size)
+bounds-book-2-2 c = omega (arith, (clear-asked _ _ _ _ c.requires c.run_baskets.ensures.done).cells, c.clear_notices.ensures.size)
 
 pub shape_of-book : goal.shape_of-book
-shape_of-book c = simp length-set (c.clear_notices.ensures.size ∙ (clear-asked _ _ _ _ c.requires c.run_baskets-counts.ensures).cells ∙ sym c.requires.book.readable.size)
+shape_of-book c = simp length-set (c.clear_notices.ensures.size ∙ (clear-asked _ _ _ _ c.requires c.run_baskets.ensures.done).cells ∙ sym c.requires.book.readable.size)
 
 pub shape_of-matches : goal.shape_of-matches
-shape_of-matches c = c.run_baskets-counts.ensures.running.match_size
+shape_of-matches c = ap length (search rules) ∙ c.run_baskets.ensures.done.running.match_size
 
 pub shape_of-lines : goal.shape_of-lines
-shape_of-lines c = c.run_baskets-counts.ensures.running.line_size
+shape_of-lines c = ap length (search rules) ∙ c.run_baskets.ensures.done.running.line_size
 
 pub returns : goal.returns
-returns c = run-done _ _ _ _ c.requires c.run_baskets-counts.ensures c.clear_notices.ensures
+returns c = run-done _ _ _ _ c.requires c.run_baskets.ensures.done c.clear_notices.ensures (search rules) (search rules)

@@ -5,7 +5,7 @@ use Rattle.runs.proofs.whole.run_baskets.Given as goal
 
 abbrev pub invariant-loop-k : goal.invariant-loop-k
 invariant-loop-k l =
-    Baskets l.initial.book l.draw l.initial.matches l.initial.lines l.book l.orders l.used l.matches l.lines l.done.matches l.done.lines l.k
+    Baskets l.initial.book l.draw l.initial.lists l.book l.orders l.used l.lists l.k
 
 abbrev pub decreases-loop-k : goal.decreases-loop-k
 decreases-loop-k l = 7 - l.k
