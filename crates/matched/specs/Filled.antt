@@ -1,5 +1,5 @@
 -- One match of a basket: what planning, filling and writing it ask and leave. Assumes nothing.
-use Rattle.std.specs.Prelude.{◌≡◌, ◌≢◌, List, map, ℕ, ◌+◌, ◌*◌, ◌≤◌, ◌<◌, length, get_or, set, take}
+use Rattle.std.specs.Prelude.{◌≡◌, ◌≢◌, true, false, List, map, ℕ, ◌+◌, ◌*◌, ◌≤◌, ◌<◌, length, get_or, set}
 use Rattle.lists.specs.Tables.{table, zeros}
 use Rattle.lists.specs.Parts.{block, grid, over}
 use Rattle.rule.specs.Value.{Terms}
@@ -13,6 +13,8 @@ use Rattle.orders.specs.Sizes.{participants_in, issues_in, Sized}
 use Rattle.filling.specs.Rows.{Named}
 use Rattle.filling.specs.declared.Filling.{Filling}
 use Rattle.stock.specs.Stock.{usable_of}
+use Rattle.stock.specs.declared.Stock.{Stock}
+use Rattle.matched.specs.declared.Basket.{Basket}
 use Rattle.records.specs.declared.listing.Lists.{Lists}
 use Rattle.records.specs.Listed.{entry_of, lines_for, Listed, SameLists, LinesOnly}
 use Rattle.records.specs.Booked.{YenMoved, LotsMoved}
@@ -43,42 +45,52 @@ pub record PlanRows (b draw : List ℕ) (k : ℕ) (owed due : List ℕ) : Type 0
 abbrev pub book_terms : List ℕ → List Terms
 book_terms b = terms_in (issues_in b) (block b terms_at 192)
 
-abbrev pub usable_in : List ℕ → List ℕ → List ℕ → List ℕ → ℕ → List ℕ
-usable_in b inside allocable used d = table (issues_in b) (λ i. usable_of (get_or inside i 0) (get_or allocable (32 * d + i) 0) (get_or used (32 * d + i) 0))
+-- what match m may use of issue i, where so many lots are used
+abbrev pub may_use : Basket → List ℕ → ℕ → ℕ → ℕ
+may_use B used d i = usable_of (get_or B.inside.now i false) (get_or B.stock.allocable.now (32 * d + i) 0) (get_or used (32 * d + i) 0)
 
-pub record UsableAsked (b : List ℕ) (m : Entry) (rates inside allocable used usable : List ℕ) : Type 0 where
+abbrev pub usable_in : List ℕ → Basket → List ℕ → ℕ → List ℕ
+usable_in b B used d = table (issues_in b) (may_use B used d)
+
+-- the stock has the rate of each issue in the book
+pub record RatesOf (b : List ℕ) (s : Stock) : Type 0 where
+  pub there : issues_in b ≤ length s.rates.now
+  pub rated : Rates (book_terms b) s.rates.now
+
+pub record UsableAsked (b : List ℕ) (B : Basket) (m : Entry) (used : List ℕ) (places : ℕ) : Type 0 where
   pub sized : Sized b
   pub deliverer : m.deliverer < 12
-  pub rated : Rates (book_terms b) rates
-  pub stock : length allocable ≡ 384
+  pub rates : RatesOf b B.stock
+  pub marked : issues_in b ≤ length B.inside.now
+  pub stock : length B.stock.allocable.now ≡ 384
   pub gone : length used ≡ 384
-  pub allocable_most : (i : ℕ) → i < issues_in b → get_or allocable (32 * m.deliverer + i) 0 ≤ 200_000_000
-  pub enough : (i : ℕ) → i < issues_in b → get_or inside i 0 ≡ 1 → get_or used (32 * m.deliverer + i) 0 ≤ get_or allocable (32 * m.deliverer + i) 0
-  pub wide : length usable ≡ 32
+  pub allocable_most : (i : ℕ) → i < issues_in b → get_or B.stock.allocable.now (32 * m.deliverer + i) 0 ≤ 200_000_000
+  pub enough : (i : ℕ) → i < issues_in b → get_or B.inside.now i false ≡ true
+      → get_or used (32 * m.deliverer + i) 0 ≤ get_or B.stock.allocable.now (32 * m.deliverer + i) 0
+  pub row : places ≡ issues_in b
 
 -- what match m may use, and what all of it is worth
-pub record UsableLots (b : List ℕ) (m : Entry) (inside allocable used usable : List ℕ) (all : ℕ) : Type 0 where
-  pub wide : length usable ≡ 32
-  pub row : take (issues_in b) usable ≡ usable_in b inside allocable used m.deliverer
+pub record UsableLots (b : List ℕ) (B : Basket) (m : Entry) (used usable : List ℕ) (all : ℕ) : Type 0 where
+  pub row : usable ≡ usable_in b B used m.deliverer
   pub most : (i : ℕ) → i < issues_in b → get_or usable i 0 ≤ 200_000_000
-  pub worth_is : all ≡ worth (book_terms b) (take (issues_in b) usable)
+  pub worth_is : all ≡ worth (book_terms b) usable
 
 -- ---- filling
 
-pub record Fillable (b : List ℕ) (m : Entry) (rates usable : List ℕ) (all : ℕ) (order lots : List ℕ) : Type 0 where
+pub record Fillable (b : List ℕ) (s : Stock) (m : Entry) (usable : List ℕ) (all : ℕ) (order lots : List ℕ) : Type 0 where
   pub sized : Sized b
   pub deliverer : m.deliverer < 12
   pub amount : m.amount.0 ≤ 10_000_000_000_000
-  pub rated : Rates (book_terms b) rates
-  pub wide : length usable ≡ 32
+  pub rates : RatesOf b s
+  pub wide : length usable ≡ issues_in b
   pub most : (i : ℕ) → i < issues_in b → get_or usable i 0 ≤ 200_000_000
-  pub worth_is : all ≡ worth (book_terms b) (take (issues_in b) usable)
+  pub worth_is : all ≡ worth (book_terms b) usable
   pub named : Named (issues_in b) order
   pub empty : lots ≡ zeros (issues_in b)
 
 unfoldable pub filled_in : List ℕ → ℕ → Entry → List ℕ → List ℕ → Filled
 filled_in b k m usable order =
-    filled (get_or b 2 0) m.preferential (book_terms b) (take (issues_in b) usable) order
+    filled (get_or b 2 0) m.preferential (book_terms b) usable order
     (forced_issue k (book_terms b) (block b (notices_at + 32 * m.deliverer) (issues_in b))) m.amount.0
 
 -- ---- writing

@@ -1,6 +1,7 @@
 // One match of a basket: what it may use, its filling, and what is written of it.
 #![tactic(auto)]
 
+ghost use Rattle.std.specs.Prelude.{length};
 ghost use Rattle.filling.specs.Match.{FilledAs};
 ghost use Rattle.matching.specs.Plans.{Planned};
 ghost use Rattle.matched.specs.Filled.{Plannable, PlanRows, plan_in, UsableAsked, UsableLots, Fillable, filled_in, LotsWritable, LotsWritten, Writable, Wrote};
@@ -12,6 +13,7 @@ use ordering::Order;
 use records::listing::Lists;
 use records::{booking, issues};
 use rule::Yen;
+use stock::Stock;
 
 // The matches of the basket, from rows for what each participant owes and has due.
 fn plan_rows(
@@ -59,64 +61,66 @@ pub fn plan_basket(book: &[u64], basket: usize, draw: &[u64], plan: &mut Plan)
     );
 }
 
-// What a match may use, into a lent row, and what all of it is worth.
-pub fn usable_lots(
-    book: &[u64],
-    m: Match,
-    rates: &[u64; 32],
-    inside: &[u64; 32],
-    allocable: &[u64],
-    used: &[u64],
-    usable: &mut [u64; 32],
-) -> Yen
-    requires { UsableAsked book.now m rates.now inside.now allocable.now used.now usable.old }
-    ensures { UsableLots book.now m inside.now allocable.now used.now usable.new result.0 }
-{
-    let issues = book[layout::ISSUES] as usize;
-    let at = layout::MOST_ISSUES * m.deliverer;
-    let end = at + issues;
-    stock::usable_row(
-        inside,
-        &allocable[at..end],
-        &used[at..end],
-        rates,
-        issues,
-        usable,
-    )
+// A basket, as its matches are filled: its number, what the run may allocate, which issues are of the basket, and the lots used in
+// earlier baskets.
+#[derive(Clone, Copy)]
+pub struct Basket<'a> {
+    pub number: usize,
+    pub stock: Stock<'a>,
+    pub inside: &'a [bool],
+    pub before: &'a [u64],
 }
 
-// A match, filled with what it may use: its lots go into a lent row of zeros.
-pub fn fill_next(
-    book: &[u64],
-    basket: usize,
-    m: Match,
-    rates: &[u64; 32],
-    usable: &[u64; 32],
-    all: Yen,
-    order: &Order,
-    lots: &mut [u64],
-) -> Filling
-    requires { Fillable book.now m rates.now usable.now all.0 order.now.items lots.old }
-    ensures { FilledAs (filled_in book.now basket m usable.now order.now.items) result lots.new }
-{
-    let issues = book[layout::ISSUES] as usize;
-    let notices = layout::NOTICES + layout::MOST_ISSUES * m.deliverer;
-    let end = notices + issues;
-    let supply = Supply {
-        terms: &book[layout::TERMS..layout::RECEIPTS],
-        rates,
-        notified: &book[notices..end],
-        usable: &usable[..issues],
-        order: order.as_slice(),
-        all,
-    };
-    supply.fill_match(
-        book[layout::RUNS],
-        basket as u64,
-        m.preferential,
-        m.amount,
-        lots,
-    )
+impl Basket<'_> {
+    // What a match may use, into a lent row, and what all of it is worth.
+    pub fn usable_lots(&self, book: &[u64], m: Match, used: &[u64], usable: &mut [u64]) -> Yen
+        requires { UsableAsked book.now self.now m used.now (length usable.old) }
+        ensures { UsableLots book.now self.now m used.now usable.new result.0 }
+    {
+        let issues = book[layout::ISSUES] as usize;
+        let at = layout::MOST_ISSUES * m.deliverer;
+        let end = at + issues;
+        stock::usable_row(
+            self.inside,
+            &self.stock.allocable[at..end],
+            &used[at..end],
+            self.stock.rates,
+            usable,
+        )
+    }
+
+    // A match, filled with what it may use: its lots go into a lent row of zeros.
+    pub fn fill_next(
+        &self,
+        book: &[u64],
+        m: Match,
+        usable: &[u64],
+        all: Yen,
+        order: &Order,
+        lots: &mut [u64],
+    ) -> Filling
+        requires { Fillable book.now self.now.stock m usable.now all.0 order.now.items lots.old }
+        ensures { FilledAs (filled_in book.now self.now.number m usable.now order.now.items) result lots.new }
+    {
+        let issues = book[layout::ISSUES] as usize;
+        let notices = layout::NOTICES + layout::MOST_ISSUES * m.deliverer;
+        let end = notices + issues;
+        let supply = Supply {
+            terms: &book[layout::TERMS..layout::RECEIPTS],
+            rates: self.stock.rates,
+            notified: &book[notices..end],
+            usable,
+            order: order.as_slice(),
+            all,
+        };
+        supply.fill_match(
+            book[layout::RUNS],
+            self.number as u64,
+            m.preferential,
+            m.amount,
+            lots,
+        )
+    }
 }
 
 // A match's lots, the forced ones with them, booked and listed; "forced lots never count as used".

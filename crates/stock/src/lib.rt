@@ -9,6 +9,13 @@ ghost use Rattle.stock.specs.Stock.{allocable_in, inside_of, usable_of, Markable
 use rule::{Lots, Yen};
 use value::Rate;
 
+// What a run may allocate: each issue's rate, and every participant's allocable quantities in rows as far apart as the book's.
+#[derive(Clone, Copy)]
+pub struct Stock<'a> {
+    pub rates: &'a [u64],
+    pub allocable: &'a [u64],
+}
+
 // A participant's allocable quantities. By number: a zip of the row with terms, notices and receipts would be tuples in tuples.
 fn allocable_row(book: &[u64], participant: usize, row: &mut [u64])
     requires { Row book.now participant row.old }

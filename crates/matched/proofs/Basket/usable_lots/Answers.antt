@@ -1,6 +1,6 @@
--- `matched::usable_lots` meets its contract. Assumes nothing.
+-- `matched::Basket::usable_lots` meets its contract. Assumes nothing.
 use Rattle.matched.proofs.FillLaws.{usable-asks, usable-are}
-use Rattle.matched.proofs.usable_lots.Goals as goal
+use Rattle.matched.proofs.Basket.usable_lots.Goals as goal
 
 pub usable_row-requires : goal.usable_row-requires
 usable_row-requires c = usable-asks c.requires
