@@ -7,6 +7,7 @@ use Rattle.std.specs.Option.{unwrap_or}
 use Prim.Native.Nat.{ℕ, ◌+◌, ◌≤◌, ◌<◌}
 use native.Mathlib.Omega.{arith}
 use lib.ListN.{length, get_or, length-map}
+use Rattle.arrayvec.specs.ArrayVec.{ArrayVec}
 use Rattle.lists.specs.Tables.{zeros}
 use Rattle.rule.specs.Run.{Allocation, basket_plan}
 use Rattle.rule.specs.Layout.{view}
@@ -17,29 +18,36 @@ use Rattle.matching.specs.declared.Match.{Match as Entry}
 use Rattle.ordering.specs.Ordered.{Ordered}
 use Rattle.orders.specs.Sizes.{issues_in}
 use Rattle.orders.specs.Orders.{Same, Orders, key_in, OrderedAt, OrderAsked, OrderFor}
-use Rattle.matched.specs.Filled.{UsableAsked, UsableLots, Fillable, filled_in, Writable, Wrote}
+use Rattle.matched.specs.declared.Basket.{Basket}
+use Rattle.matched.specs.Filled.{may_use, UsableAsked, UsableLots, Fillable, filled_in, Writable, Wrote}
 use Rattle.records.specs.declared.listing.Lists.{Lists}
 use Rattle.records.specs.Listed.{SameLists}
 use Rattle.records.proofs.ListingLaws.{same-lists, same-then}
 use Rattle.runs.specs.Running.{done_to, done_at, Running, Done, AllocateAsks}
 use Rattle.runs.proofs.DoneLaws.{done-begin, done_end}
 use Rattle.runs.proofs.ReadLaws.{issues-kept}
-use Rattle.runs.proofs.RunningLaws.{may_use, usable-asks, orders-kept, order-asks, order-next, fill-asks, write-asks, running_more}
+use Rattle.runs.proofs.RunningLaws.{usable-asks, orders-kept, order-asks, order-next, fill-asks, write-asks, running_more}
 
-module _ (k : ℕ) (b₁ : List ℕ) (made : List Entry) (rates inside allocable before orders₁ used₁ : List ℕ) (t₁ : Lists) where
+module _ (B : Basket) (b₁ : List ℕ) (made : List Entry) (orders₁ : List (ArrayVec ℕ)) (used₁ : List ℕ) (t₁ : Lists) where
+  abbrev k : ℕ
+  k = B.number
+
+  abbrev before : List ℕ
+  before = B.before.now
+
   abbrev Asks : Type 0
-  Asks = AllocateAsks k b₁ made rates inside allocable before orders₁ used₁ t₁
+  Asks = AllocateAsks B b₁ made orders₁ used₁ t₁
 
   -- the first j matches are filled, listed and booked, whatever book and lists the run began with; the order is that of the last of them, if it lists any issue
-  pub record Allocating (b orders used order : List ℕ) (t : Lists) (last : Option Entry) (usable : List ℕ) (j : ℕ) : Type 0 where
+  pub record Allocating (b : List ℕ) (orders : List (ArrayVec ℕ)) (used order : List ℕ) (t : Lists) (last : Option Entry) (usable : List ℕ) (j : ℕ) : Type 0 where
     pub here : j ≤ length made
-    pub wide : length usable ≡ 32
+    pub wide : length usable ≡ get_or b₁ 1 0
     pub running : (s : Asks) → Running s.b₀ s.m₀ s.l₀ (done_at (view s.b₀) s.draw k j) b used t
     pub kept : (s : Asks) → Orders s.b₀ orders
     pub same : SameLists t₁ t
-    pub last_is : (s : Asks) → 0 < length order → (x : Entry) → last ≡ Some x → OrderedAt s.b₀ before x (may_use inside allocable used x.deliverer) order
+    pub last_is : (s : Asks) → 0 < length order → (x : Entry) → last ≡ Some x → OrderedAt s.b₀ before x (may_use B used x.deliverer) order
 
-  pub allocating-none : {order usable : List ℕ} (last : Option Entry) → order ≡ [] → length usable ≡ 32 → Allocating b₁ orders₁ used₁ order t₁ last usable 0
+  pub allocating-none : {order usable : List ℕ} (last : Option Entry) → order ≡ [] → length usable ≡ get_or b₁ 1 0 → Allocating b₁ orders₁ used₁ order t₁ last usable 0
   allocating-none last e r = record {
     here = omega arith;
     wide = r;
@@ -49,73 +57,25 @@ module _ (k : ℕ) (b₁ : List ℕ) (made : List Entry) (rates inside allocable
     last_is = λ s t x z. absurd (omega (arith, ap length e));
   }
 
+  pub issues-few : Asks → get_or b₁ 1 0 ≤ 32
+  issues-few s = omega (arith, issues-kept s.b₀ s.begun.start.book _ b₁ s.begun.running.booked, s.begun.start.book.sizes.most)
+
   counted : (s : Asks) → length (basket_plan (view s.b₀) s.draw k) ≡ length made
   counted s = sym (ap length s.planning.planned) ∙ length-map made match_of
 
-  pub allocating-all : {b orders used order : List ℕ} {t : Lists} {last : Option Entry} {usable₀ : List ℕ} {j : ℕ} → length made ≤ j → Allocating b orders used order t last usable₀ j
+  pub allocating-all : {b : List ℕ} {orders : List (ArrayVec ℕ)} {used order : List ℕ} {t : Lists} {last : Option Entry} {usable₀ : List ℕ} {j : ℕ} → length made ≤ j → Allocating b orders used order t last usable₀ j
       → (s : Asks) → Done s.b₀ s.m₀ s.l₀ (done_to (view s.b₀) s.draw (k + 1)) b orders used t
   allocating-all {b} {orders} {used} {order} {t} {last} {usable₀} {j} h w s = record {
     running = subst (λ (x : List Allocation). Running s.b₀ s.m₀ s.l₀ x b used t) (done_end (view s.b₀) s.draw k j (omega (arith, counted s))) (w.running s);
     kept = w.kept s;
   }
 
-  module _ {b orders used order : List ℕ} {t : Lists} {last : Option Entry} {usable₀ : List ℕ} {j : ℕ} (w : Allocating b orders used order t last usable₀ j) (e : Entry) (h : j < length made) (E : e ≡ get_or made j e) where
-    pub usable-asked : Asks → UsableAsked b e rates inside allocable used usable₀
-    usable-asked s =
-        usable-asks s.b₀ s.draw s.m₀ s.l₀ s.begun.start k s.begun.basket made inside before s.planning j e h E rates allocable s.begun.tables
-        b used t (w.running s) usable₀ w.wide
-
-    module _ {usable : List ℕ} {all : ℕ} (U : UsableLots b e inside allocable used usable all) where
-      pub order-asked : Asks → OrderAsked b before last e usable orders order
-      order-asked s =
-          order-asks s.b₀ s.draw s.m₀ s.l₀ s.begun.start k s.begun.basket made inside before s.planning j e h E rates allocable s.begun.tables
-          b used t (w.running s) usable all U last orders order (w.kept s) (λ x y. same y (w.last_is s x y.before y.there))
-        where
-          -- the match before is of the same deliverer and sort
-          same : (y : Same last e) → OrderedAt s.b₀ before y.before (may_use inside allocable used y.before.deliverer) order
-              → OrderedAt s.b₀ before e (may_use inside allocable used e.deliverer) order
-          same y o =
-              subst (λ (x : Bool). Ordered (issues_in s.b₀) (key_in s.b₀ before e.deliverer x) (may_use inside allocable used e.deliverer) order) y.sort
-              (subst (λ (x : ℕ). Ordered (issues_in s.b₀) (key_in s.b₀ before x y.before.preferential) (may_use inside allocable used x) order) y.deliverer o)
-
-    module _ {usable : List ℕ} {all : ℕ} (U : UsableLots b e inside allocable used usable all) {orders' order' : List ℕ} (O : OrderFor b before e usable all orders' order') where
-      pub fill-asked : (lots : List ℕ) → lots ≡ zeros (issues_in b) → Asks → Fillable b e rates usable all order' lots
-      fill-asked lots v s =
-          fill-asks s.b₀ s.draw s.m₀ s.l₀ s.begun.start k s.begun.basket made inside before s.planning j e h E rates allocable s.begun.tables
-          b used t (w.running s) usable all U orders' order' O lots v
-
-      module _ {f : Filling} {lots : List ℕ} (A : FilledAs (filled_in b k e usable order') f lots) where
-        pub write-asked : Asks → Writable b k e f lots used t
-        write-asked s =
-            write-asks s.b₀ s.draw s.m₀ s.l₀ s.begun.start k s.begun.basket made inside before s.planning j e h E rates allocable s.begun.tables
-            b used t (w.running s) usable all U orders' order' O f lots A
-
-        pub allocating-more : {b' used' : List ℕ} {t' : Lists} → Wrote b k e f lots used t b' used' t'
-            → Allocating b' orders' used' order' t' (Some e) usable (j + 1)
-        allocating-more {b'} {used'} {t'} W = record {
-          here = omega arith;
-          wide = U.wide;
-          running = λ s.
-              running_more s.b₀ s.draw s.m₀ s.l₀ s.begun.start k s.begun.basket made inside before s.planning j e h E rates allocable s.begun.tables
-              b used t (w.running s) usable all U orders' order' O f lots A b' used' t' W;
-          kept = λ s.
-              orders-kept s.b₀ s.draw s.m₀ s.l₀ s.begun.start k s.begun.basket made inside before s.planning j e h E rates allocable s.begun.tables
-              b used t (w.running s) orders' O.kept;
-          same = same-then w.same W.same;
-          last_is = λ s x p z. subst (λ (q : Entry). OrderedAt s.b₀ before q (may_use inside allocable used' q.deliverer) order') (ap (λ (o : Option Entry). unwrap_or o e) z)
-              (order-next s.b₀ s.draw s.m₀ s.l₀ s.begun.start k s.begun.basket made inside before s.planning j e h E rates allocable s.begun.tables
-              b used t (w.running s) usable all U orders' order' O f lots A b' used' t' W x);
-        }
-
   -- ---- the lengths of what is lent stay
 
-  module _ {b orders used order : List ℕ} {t : Lists} {last : Option Entry} {usable₀ : List ℕ} {j : ℕ} (w : Allocating b orders used order t last usable₀ j) (s : Asks) where
+  module _ {b : List ℕ} {orders : List (ArrayVec ℕ)} {used order : List ℕ} {t : Lists} {last : Option Entry} {usable₀ : List ℕ} {j : ℕ} (w : Allocating b orders used order t last usable₀ j) (s : Asks) where
     -- the code has the number of issues from the book as the basket began
     pub issues-same : get_or b₁ 1 0 ≡ issues_in b
     issues-same = issues-kept s.b₀ s.begun.start.book _ b₁ s.begun.running.booked ∙ sym (issues-kept s.b₀ s.begun.start.book _ b (w.running s).booked)
-
-    pub issues-few : get_or b₁ 1 0 ≤ 32
-    issues-few = omega (arith, issues-kept s.b₀ s.begun.start.book _ b₁ s.begun.running.booked, s.begun.start.book.sizes.most)
 
     pub book-size : length b ≡ length b₁
     book-size = (w.running s).booked.size ∙ sym s.begun.running.booked.size
@@ -125,3 +85,53 @@ module _ (k : ℕ) (b₁ : List ℕ) (made : List Entry) (rates inside allocable
 
     pub used-size : length used ≡ length used₁
     used-size = (w.running s).places ∙ sym s.begun.running.places
+
+  -- ---- the next match
+
+  module _ {b : List ℕ} {orders : List (ArrayVec ℕ)} {used order : List ℕ} {t : Lists} {last : Option Entry} {usable₀ : List ℕ} {j : ℕ} (w : Allocating b orders used order t last usable₀ j) (e : Entry) (h : j < length made) (E : e ≡ get_or made j e) where
+    pub usable-asked : Asks → UsableAsked b B e used (length usable₀)
+    usable-asked s =
+        usable-asks s.b₀ s.draw s.m₀ s.l₀ s.begun.start B s.begun.basket made s.planning j e h E s.begun.stocked
+        b used t (w.running s) (length usable₀) (w.wide ∙ issues-same w s)
+
+    module _ {usable : List ℕ} {all : ℕ} (U : UsableLots b B e used usable all) where
+      pub order-asked : Asks → OrderAsked b before last e usable orders order
+      order-asked s =
+          order-asks s.b₀ s.draw s.m₀ s.l₀ s.begun.start B s.begun.basket made s.planning j e h E s.begun.stocked
+          b used t (w.running s) usable all U last orders order (w.kept s) (λ x y. same y (w.last_is s x y.before y.there))
+        where
+          -- the match before is of the same deliverer and sort
+          same : (y : Same last e) → OrderedAt s.b₀ before y.before (may_use B used y.before.deliverer) order
+              → OrderedAt s.b₀ before e (may_use B used e.deliverer) order
+          same y o =
+              subst (λ (x : Bool). Ordered (issues_in s.b₀) (key_in s.b₀ before e.deliverer x) (may_use B used e.deliverer) order) y.sort
+              (subst (λ (x : ℕ). Ordered (issues_in s.b₀) (key_in s.b₀ before x y.before.preferential) (may_use B used x) order) y.deliverer o)
+
+    module _ {usable : List ℕ} {all : ℕ} (U : UsableLots b B e used usable all) {orders' : List (ArrayVec ℕ)} {order' : List ℕ} (O : OrderFor b before e usable all orders' order') where
+      pub fill-asked : (lots : List ℕ) → lots ≡ zeros (issues_in b) → Asks → Fillable b B.stock e usable all order' lots
+      fill-asked lots v s =
+          fill-asks s.b₀ s.draw s.m₀ s.l₀ s.begun.start B s.begun.basket made s.planning j e h E s.begun.stocked
+          b used t (w.running s) usable all U orders' order' O lots v
+
+      module _ {f : Filling} {lots : List ℕ} (A : FilledAs (filled_in b k e usable order') f lots) where
+        pub write-asked : Asks → Writable b k e f lots used t
+        write-asked s =
+            write-asks s.b₀ s.draw s.m₀ s.l₀ s.begun.start B s.begun.basket made s.planning j e h E s.begun.stocked
+            b used t (w.running s) usable all U orders' order' O f lots A
+
+        pub allocating-more : {b' used' : List ℕ} {t' : Lists} → length usable ≡ length usable₀ → Wrote b k e f lots used t b' used' t'
+            → Allocating b' orders' used' order' t' (Some e) usable (j + 1)
+        allocating-more {b'} {used'} {t'} z₀ W = record {
+          here = omega arith;
+          wide = z₀ ∙ w.wide;
+          running = λ s.
+              running_more s.b₀ s.draw s.m₀ s.l₀ s.begun.start B s.begun.basket made s.planning j e h E s.begun.stocked
+              b used t (w.running s) usable all U orders' order' O f lots A b' used' t' W;
+          kept = λ s.
+              orders-kept s.b₀ s.draw s.m₀ s.l₀ s.begun.start B s.begun.basket made s.planning j e h E s.begun.stocked
+              b used t (w.running s) orders' O.kept;
+          same = same-then w.same W.same;
+          last_is = λ s x p z. subst (λ (q : Entry). OrderedAt s.b₀ before q (may_use B used' q.deliverer) order') (ap (λ (o : Option Entry). unwrap_or o e) z)
+              (order-next s.b₀ s.draw s.m₀ s.l₀ s.begun.start B s.begun.basket made s.planning j e h E s.begun.stocked
+              b used t (w.running s) usable all U orders' order' O f lots A b' used' t' W x);
+        }

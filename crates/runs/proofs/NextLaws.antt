@@ -6,9 +6,7 @@ use mathlib.Core.List.{List, [], ◌∷◌, ◌++◌}
 use Prim.Native.Nat.{ℕ, ◌+◌, ◌-◌, ◌*◌, ◌<◌}
 use native.Mathlib.Nat.{le_refl}
 use native.Mathlib.Omega.{arith}
-use lib.ListN.{length, get_or, take, length-map}
-use lib.Seq.{get_or-take}
-use lib.Dec.{eqb}
+use lib.ListN.{length, get_or, length-map}
 use Rattle.lists.specs.Tests.{pick}
 use Rattle.lists.specs.Tables.{table, row, cell}
 use Rattle.lists.specs.Folds.{keep, Every}
@@ -34,12 +32,14 @@ use Rattle.ordering.specs.Ordered.{Ordered, order_key}
 use Rattle.ordering.proofs.OrderLaws.{ordered-moved}
 use Rattle.lists.proofs.FoldLaws.{every_map}
 use Rattle.lists.proofs.OrderLaws.{ranked-alike, ranked-below}
-use Rattle.stock.specs.Stock.{terms_in, inside_of, usable_of}
+use Rattle.arrayvec.specs.ArrayVec.{ArrayVec}
+use Rattle.stock.specs.Stock.{inside_of, usable_of}
 use Rattle.orders.specs.Sizes.{participants_in, issues_in}
 use Rattle.orders.specs.Orders.{key_in, OrderedAt, OrderFor}
-use Rattle.matched.specs.Filled.{book_terms, usable_in, UsableLots, filled_in}
+use Rattle.matched.specs.Filled.{book_terms, may_use, usable_in, UsableLots, filled_in}
+use Rattle.matched.specs.declared.Basket.{Basket}
 use Rattle.records.specs.declared.listing.Lists.{Lists}
-use Rattle.runs.specs.Running.{done_to, done_in, done_at, Start, Running, Tables, Planning}
+use Rattle.runs.specs.Running.{done_to, done_in, done_at, Start, Running, Stocked, Planning}
 use Rattle.runs.proofs.DoneLaws.{next_of, done_next, Part, part_at, part-every}
 use Rattle.runs.proofs.ReadLaws.{terms-read, notices-read, runs-read, allocable-read, terms-are, low-kept, issues-kept, terms-kept, notices-kept}
 
@@ -57,13 +57,14 @@ last_of : (P : Allocation → Type 0) (xs : List Allocation) (a : Allocation) �
 last_of P [] a h = h.0
 last_of P (x ∷ xs) a h = last_of P xs a h.1
 
--- a mark is 1 where the test holds
-flag : (w : Bool) → eqb (pick {X = ℕ} w 1 0) 1 ≡ w
-flag true = refl
-flag false = refl
+module _ (b draw m₀ l₀ : List ℕ) (S : Start b draw m₀ l₀) (B : Basket) (basket : B.number < 7) (made : List Entry)
+    (P : Planning b draw B made) (j : ℕ) (e : Entry) (l : j < length made) (E : e ≡ get_or made j e) where
+  abbrev k : ℕ
+  k = B.number
 
-module _ (b draw m₀ l₀ : List ℕ) (S : Start b draw m₀ l₀) (k : ℕ) (basket : k < 7) (made : List Entry) (inside before : List ℕ)
-    (P : Planning b draw k made inside before) (j : ℕ) (e : Entry) (l : j < length made) (E : e ≡ get_or made j e) where
+  abbrev before : List ℕ
+  before = B.before.now
+
   abbrev y : Day
   y = view b
 
@@ -121,8 +122,8 @@ module _ (b draw m₀ l₀ : List ℕ) (S : Start b draw m₀ l₀) (k : ℕ) (b
 
   -- ---- filled as the definition fills it
 
-  module _ (rates allocable : List ℕ) (T : Tables b rates allocable) (c used' : List ℕ) (t : Lists) (R : Running b m₀ l₀ done c used' t)
-      (usable' : List ℕ) (all : ℕ) (U : UsableLots c e inside allocable used' usable' all) (orders order : List ℕ) (O : OrderFor c before e usable' all orders order) where
+  module _ (T : Stocked b B.stock) (c used' : List ℕ) (t : Lists) (R : Running b m₀ l₀ done c used' t)
+      (usable' : List ℕ) (all : ℕ) (U : UsableLots c B e used' usable' all) (orders : List (ArrayVec ℕ)) (order : List ℕ) (O : OrderFor c before e usable' all orders order) where
     used-here : (i : ℕ) → i < m → get_or used' (32 * d + i) 0 ≡ cell (used_table (view b).given (done_to (view b) draw k)) d i + used (done_in (view b) draw k j) d i
     unfolding done_at view
     used-here i h =
@@ -130,19 +131,19 @@ module _ (b draw m₀ l₀ : List ℕ) (S : Start b draw m₀ l₀) (k : ℕ) (b
         ∙ ap (λ (x : ℕ). x + used (done_in (view b) draw k j) d i) (sym (used-cell (view b).given (done_to (view b) draw k) d i deliverer-of-day h))
 
     usable-cell : (i : ℕ) → i < m
-        → usable_of (get_or inside i 0) (get_or allocable (32 * d + i) 0) (get_or used' (32 * d + i) 0)
+        → may_use B used' d i
         ≡ pick (within k (get_or (view b).given.terms i no_terms)) (allocable_of (view b) d i - (cell (used_table (view b).given (done_to (view b) draw k)) d i + used (done_in (view b) draw k j) d i)) 0
     unfolding usable_of inside_of
     usable-cell i h =
         ap₂ (λ (t : Bool) (x : ℕ). pick {X = ℕ} t x 0)
-        (ap (λ (x : ℕ). eqb x 1) (P.inside_at i h) ∙ flag (within k (terms_in b i)) ∙ ap (within k) (sym (terms-read b i h)))
-        (ap₂ (λ (x z : ℕ). x - z) (T.stock.each d i deliverer-of-day h ∙ sym (allocable-read b d i deliverer-of-day h)) (used-here i h))
+        (ap (λ (r : List Bool). get_or r i false) P.inside_is ∙ get_or-table m (inside_of b k) i false h ∙ ap (within k) (sym (terms-read b i h)))
+        (ap₂ (λ (x z : ℕ). x - z) (T.lots.each d i deliverer-of-day h ∙ sym (allocable-read b d i deliverer-of-day h)) (used-here i h))
 
-    usable_same : usable_in c inside allocable used' d ≡ usable (view b) k (used_table (view b).given (done_to (view b) draw k)) (done_in (view b) draw k j) d
+    usable_same : usable_in c B used' d ≡ usable (view b) k (used_table (view b).given (done_to (view b) draw k)) (done_in (view b) draw k j) d
     unfolding usable view
     usable_same =
-        ap (λ (x : ℕ). table x (λ i. usable_of (get_or inside i 0) (get_or allocable (32 * d + i) 0) (get_or used' (32 * d + i) 0))) (issues-kept b S.book done c R.booked)
-        ∙ table-agree m (λ i. usable_of (get_or inside i 0) (get_or allocable (32 * d + i) 0) (get_or used' (32 * d + i) 0)) _ usable-cell
+        ap (λ (x : ℕ). table x (may_use B used' d)) (issues-kept b S.book done c R.booked)
+        ∙ table-agree m (may_use B used' d) _ usable-cell
 
     -- the order's keys are the definition's
     order-of : (preferential : Bool) → ranked (λ i. order_key preferential (get_or b (notices_at + 32 * d + i) 0) (get_or before (32 * d + i) 0)) m
@@ -192,18 +193,18 @@ module _ (b draw m₀ l₀ : List ℕ) (S : Start b draw m₀ l₀) (k : ℕ) (b
     amount = e.amount.0
 
     abbrev with-order : List ℕ → Filled
-    with-order x = filled (get_or c 2 0) pref (book_terms c) (take (issues_in c) usable') x (forced_issue k (book_terms c) (block c (notices_at + 32 * d) (issues_in c))) amount
+    with-order x = filled (get_or c 2 0) pref (book_terms c) usable' x (forced_issue k (book_terms c) (block c (notices_at + 32 * d) (issues_in c))) amount
 
     -- an issue that the order leaves out takes nothing in its turn
     order-kept : (h : Ordered m key (λ i. get_or usable' i 0) order) → with-order (keep h.live (ranked key m)) ≡ with-order (ranked key m)
     order-kept h =
-        filled-kept (get_or c 2 0) pref (book_terms c) (take (issues_in c) usable') (ranked key m) h.live (forced_issue k (book_terms c) (block c (notices_at + 32 * d) (issues_in c))) amount
-        (every_map (λ i. i < m) (λ i. h.live i ≡ false → get_or (take (issues_in c) usable') i 0 ≡ 0)
-        (λ i l e. get_or-take (issues_in c) usable' i 0 (omega (arith, issues-same)) ∙ h.rest i l e) (ranked key m) (ranked-below key m))
+        filled-kept (get_or c 2 0) pref (book_terms c) usable' (ranked key m) h.live (forced_issue k (book_terms c) (block c (notices_at + 32 * d) (issues_in c))) amount
+        (every_map (λ i. i < m) (λ i. h.live i ≡ false → get_or usable' i 0 ≡ 0)
+        (λ i l e. h.rest i l e) (ranked key m) (ranked-below key m))
 
     order-right : OrderedAt c before e (λ i. get_or usable' i 0) order ⊎ Idle (get_or c 2 0) all amount → with-order order ≡ with-order o
     order-right (inl h) = ap with-order (order-moved h).names ∙ order-kept (order-moved h) ∙ ap with-order (order-of pref)
-    order-right (inr h) = h.same pref (book_terms c) (take (issues_in c) usable') order o _ U.worth_is
+    order-right (inr h) = h.same pref (book_terms c) usable' order o _ U.worth_is
 
     pub next-filled : filled_in c k e usable' order ≡ next.filled
     unfolding filled_in next_of allocate

@@ -1,7 +1,7 @@
 -- Laws of a whole run: the loop over the baskets, the notices cleared, and the book that is left. Assumes nothing.
 use mathlib.Core.Path.{◌≡◌, refl, sym, ap, ap₂, ◌∙◌, subst}
 use mathlib.Core.Logic.{◌≢◌, ◌⊎◌, inl, inr}
-use mathlib.Core.List.{List, [], ◌++◌}
+use mathlib.Core.List.{List, []}
 use Prim.Native.Nat.{ℕ, ◌+◌, ◌-◌, ◌*◌, ◌≤◌, ◌<◌}
 use native.Mathlib.Nat.{not-suc-le-zero}
 use native.Mathlib.Decide.{ℕ_discrete}
@@ -17,7 +17,7 @@ use Rattle.lists.specs.Parts.{block}
 use Rattle.lists.proofs.TableLaws.{get_or-table, get_or-zeros}
 use Rattle.lists.proofs.PartLaws.{Outside, Stands, length-block}
 use mathlib.Core.Bool.{true}
-use Rattle.rule.specs.Value.{Terms, no_terms}
+use Rattle.rule.specs.Value.{Terms}
 use Rattle.rule.specs.Day.{Day, mark}
 use Rattle.rule.specs.Sound.{all_terms_fit}
 use Rattle.rule.specs.Run.{Allocation, used, allocations, ran, covered_from, covered_to, covered_pair, lots_from, lots_to, match_list, line_list, lines_from}
@@ -26,18 +26,20 @@ use Rattle.rule.proofs.BookLaws.{SoundBook}
 use Rattle.rule.proofs.LayoutLaws.{Shaped, Holds, view-shaped, view-holds, signed-cell, given-kept, stored_is, outside-sizes, outside-position, outside-notice, outside-pair, outside-tally}
 use Rattle.rule.proofs.RunLaws.{Runnable}
 use Rattle.rule.proofs.RunSound.{ran-shaped}
-use Rattle.value.specs.Rated.{Rated, Rates, Termed, terms_in}
-use Rattle.value.proofs.TermLaws.{sound-termed, terms-length}
-use Rattle.std.proofs.lemmas.List.{get_or_append_left}
-use Rattle.matched.specs.Filled.{book_terms}
+use Rattle.value.specs.Rated.{Rates, Termed, terms_in}
+use Rattle.value.proofs.TermLaws.{sound-termed}
+use Rattle.std.specs.Array.{AllOfLen}
+use Rattle.arrayvec.specs.ArrayVec.{ArrayVec}
+use denote.Bor.{Bor}
 use Rattle.rows.specs.Rows.{Becomes}
-use Rattle.stock.specs.Stock.{Rows}
+use Rattle.stock.specs.Stock.{Rows, Allocable}
+use Rattle.stock.specs.declared.Stock.{Stock}
 use Rattle.records.specs.declared.listing.Lists.{Lists}
 use Rattle.records.specs.Listed.{SameLists}
 use Rattle.records.proofs.ListingLaws.{same-lists, same-then}
 use Rattle.records.specs.Booked.{position_at, mark_at, tally_of}
 use Rattle.orders.specs.Sizes.{participants_in, issues_in, Sized}
-use Rattle.runs.specs.Running.{done_to, BookedTo, Start, Running, Done, BasketAsks}
+use Rattle.runs.specs.Running.{done_to, BookedTo, Start, Running, Stocked, Done, BasketAsks}
 use Rattle.runs.specs.Ran.{BasketsAsk, BasketsDone, Cleared, Ran}
 use Rattle.rows.proofs.RowLaws.{lent-size, lent-in, lent_out, where-is}
 use Rattle.orders.proofs.OrderLaws.{orders-begin}
@@ -50,12 +52,12 @@ use Rattle.runs.proofs.NextLaws.{runnable}
 -- ---- the seven baskets
 
 -- those before k are done
-pub record Baskets (b draw : List ℕ) (t₀ : Lists) (c orders used' : List ℕ) (t : Lists) (k : ℕ) : Type 0 where
+pub record Baskets (b draw : List ℕ) (t₀ : Lists) (c : List ℕ) (orders : List (ArrayVec ℕ)) (used' : List ℕ) (t : Lists) (k : ℕ) : Type 0 where
   pub here : k ≤ 7
   pub done : Done b t₀.matches.now t₀.lines.now (done_to (view b) draw k) c orders used' t
   pub same : SameLists t₀ t
 
-module _ (b draw rates allocable : List ℕ) (t₀ : Lists) (h : BasketsAsk b draw rates allocable t₀) where
+module _ (b draw : List ℕ) (stock : Stock) (t₀ : Lists) (h : BasketsAsk b draw stock t₀) where
   nothing-done : Running b t₀.matches.now t₀.lines.now [] b (zeros 384) t₀
   unfolding used match_list line_list lines_from
   nothing-done = record {
@@ -70,22 +72,23 @@ module _ (b draw rates allocable : List ℕ) (t₀ : Lists) (h : BasketsAsk b dr
     line_count = h.no_line;
   }
 
-  pub baskets-none : Baskets b draw t₀ b (table 384 (λ i. 32)) (zeros 384) t₀ 0
-  baskets-none = record {
+  -- no deliverer's issues are ranked
+  pub baskets-none : {orders : List (ArrayVec ℕ)} → AllOfLen (λ o. o.items ≡ []) orders 12 → Baskets b draw t₀ b orders (zeros 384) t₀ 0
+  baskets-none {orders} e = record {
     here = omega arith;
     done = record {
       running = subst (λ (x : List Allocation). Running b t₀.matches.now t₀.lines.now x b (zeros 384) t₀) (sym (done_none (view b) draw)) nothing-done;
-      kept = orders-begin b;
+      kept = orders-begin b orders e.long (λ d x. e.at d (record { items = [] }) x);
     };
     same = same-lists t₀;
   }
 
-  module _ {c orders used' : List ℕ} {t : Lists} {k : ℕ} (w : Baskets b draw t₀ c orders used' t k) where
-    pub basket-asked : k < 7 → BasketAsks k c draw rates allocable orders used' t
-    basket-asked x = record { b₀ = b; m₀ = t₀.matches.now; l₀ = t₀.lines.now; begun = record { start = h.start; basket = x; tables = h.tables; running = w.done.running; kept = w.done.kept } }
+  module _ {c : List ℕ} {orders : List (ArrayVec ℕ)} {used' : List ℕ} {t : Lists} {k : ℕ} (w : Baskets b draw t₀ c orders used' t k) where
+    pub basket-asked : k < 7 → BasketAsks k c draw stock orders used' t
+    basket-asked x = record { b₀ = b; m₀ = t₀.matches.now; l₀ = t₀.lines.now; begun = record { start = h.start; basket = x; stocked = h.stocked; running = w.done.running; kept = w.done.kept } }
 
-    pub baskets-more : (x : k < 7) {c' orders' used'' : List ℕ} {t' : Lists}
-        → ((s : BasketAsks k c draw rates allocable orders used' t) → Done s.b₀ s.m₀ s.l₀ (done_to (view s.b₀) draw (k + 1)) c' orders' used'' t')
+    pub baskets-more : (x : k < 7) {c' : List ℕ} {orders' : List (ArrayVec ℕ)} {used'' : List ℕ} {t' : Lists}
+        → ((s : BasketAsks k c draw stock orders used' t) → Done s.b₀ s.m₀ s.l₀ (done_to (view s.b₀) draw (k + 1)) c' orders' used'' t')
         → SameLists t t' → Baskets b draw t₀ c' orders' used'' t' (k + 1)
     unfolding basket-asked
     baskets-more x f e = record { here = omega arith; done = f (basket-asked x); same = same-then w.same e }
@@ -285,13 +288,12 @@ module _ (b draw m₀ l₀ : List ℕ) (h : Start b draw m₀ l₀) where
     pub rates-lent : Termed (length (take (issues_in b) row)) (block b terms_at 192)
     rates-lent = rw lent rates-asked
 
-    pub rates-back : (part : List ℕ) → length part ≡ length (take (issues_in b) row) → Rates (terms_in (length (take (issues_in b) row)) (block b terms_at 192)) part
-        → Rates (book_terms b) (part ++ drop (issues_in b) row)
-    rates-back part e r = record {
-      each = λ i l.
-          let inside : i < issues_in b = omega (arith, terms-length (issues_in b) (block b terms_at 192)) in
-          subst (Rated (get_or (book_terms b) i no_terms)) (sym (get_or_append_left part (drop (issues_in b) row) 0 i (omega (arith, e, lent, inside))))
-          ((subst (λ (n : ℕ). Rates (terms_in n (block b terms_at 192)) part) lent r).each i l);
+    -- the stock has them
+    pub stocked : {rates allocable : Bor (List ℕ)} → length rates.now ≡ length (take (issues_in b) row) → Rates (terms_in (length (take (issues_in b) row)) (block b terms_at 192)) rates.now
+        → Allocable b allocable.now → Stocked b (record { rates = rates; allocable = allocable })
+    stocked {rates} e r a = record {
+      rates = record { there = omega (arith, e, lent); rated = subst (λ (n : ℕ). Rates (terms_in n (block b terms_at 192)) rates.now) lent r };
+      lots = a;
     }
 
   pub stock-asked : (cells : List ℕ) → length cells ≡ 384 → Rows b cells

@@ -8,7 +8,7 @@ use native.Mathlib.Decide.{ℕ_discrete}
 use native.Mathlib.Omega.{arith}
 use lib.ListN.{length, get_or, length-append}
 use Rattle.std.specs.Prelude.{Option}
-use lib.Seq.{get_or-set_same, get_or-take}
+use lib.Seq.{get_or-set_same}
 use lib.Dec.{eqb}
 use borrow.Author.Tests.{eq-eqb, ne_eqb}
 use Rattle.lists.specs.Tests.{pick}
@@ -16,7 +16,7 @@ use Rattle.lists.specs.Tables.{zeros}
 use Rattle.lists.specs.Folds.{joined}
 use Rattle.lists.specs.Parts.{over}
 use Rattle.lists.proofs.TestLaws.{go}
-use Rattle.lists.proofs.TableLaws.{get_or-table}
+use Rattle.lists.proofs.TableLaws.{length-table, get_or-table}
 use Rattle.lists.proofs.PartLaws.{length_over}
 use Rattle.rule.specs.Value.{Terms}
 use Rattle.rule.specs.Filling.{Filled, all_lots}
@@ -33,15 +33,17 @@ use Rattle.filling.specs.declared.Filling.{Filling}
 use Rattle.filling.proofs.MatchLaws.{allocable_most}
 use Rattle.ordering.specs.Ordered.{order_key}
 use Rattle.ordering.proofs.OrderLaws.{ordered-moved}
-use Rattle.stock.specs.Stock.{terms_in, allocable_in, usable_of}
+use Rattle.arrayvec.specs.ArrayVec.{ArrayVec}
+use Rattle.stock.specs.Stock.{terms_in, allocable_in, inside_of, usable_of}
 use Rattle.records.specs.Listed.{entry_of, lines_for}
 use Rattle.records.specs.Booked.{YenMoved, LotsMoved}
 use Rattle.orders.specs.Sizes.{participants_in, issues_in}
 use Rattle.orders.specs.Orders.{Same, notified_in, Orders, OrderedAt, OrderAsked, OrderFor}
-use Rattle.matched.specs.Filled.{book_terms, UsableAsked, UsableLots, Fillable, filled_in, lots_with, Writable, Wrote}
+use Rattle.matched.specs.declared.Basket.{Basket}
+use Rattle.matched.specs.Filled.{may_use, RatesOf, UsableAsked, UsableLots, Fillable, filled_in, lots_with, Writable, Wrote}
 use Rattle.orders.proofs.OrderLaws.{orders-moved}
 use Rattle.records.specs.declared.listing.Lists.{Lists}
-use Rattle.runs.specs.Running.{done_at, Start, Running, Tables, Planning}
+use Rattle.runs.specs.Running.{done_at, Start, Running, Stocked, Planning}
 use Rattle.runs.proofs.DoneLaws.{next_of, Part, part-total, part_length}
 use Rattle.runs.proofs.BookedLaws.{booked-more, more_yes, more_no}
 use Rattle.runs.proofs.ReadLaws.{notices-read, allocable-read, sized-kept, issues-kept, terms-kept, notices-kept}
@@ -49,21 +51,27 @@ use Rattle.runs.proofs.NextLaws.{runnable, next, next-is, next-part, next-alloca
 use Rattle.records.proofs.ListingLaws.{cells-for}
 use Rattle.runs.proofs.ListedLaws.{lines-append, lines_more, entry-is, all-lots, all-size, lines_are, entries-more, rows_more}
 
--- what may be used of participant d's issues
-abbrev pub may_use : List ℕ → List ℕ → List ℕ → ℕ → ℕ → ℕ
-may_use inside allocable used d i = usable_of (get_or inside i 0) (get_or allocable (32 * d + i) 0) (get_or used (32 * d + i) 0)
-
 -- the more is used, the less may be
-usable-falls : (inside allocable used used' : ℕ) → used ≤ used' → usable_of inside allocable used' ≤ usable_of inside allocable used
+usable-falls : (inside : Bool) (allocable used used' : ℕ) → used ≤ used' → usable_of inside allocable used' ≤ usable_of inside allocable used
 unfolding usable_of
-usable-falls inside allocable used used' h = cases (eqb inside 1)
+usable-falls inside allocable used used' h = cases inside
   where
     cases : (t : Bool) → pick t (allocable - used') 0 ≤ pick t (allocable - used) 0
     cases true = omega arith
     cases false = omega arith
 
-module _ (b draw m₀ l₀ : List ℕ) (S : Start b draw m₀ l₀) (k : ℕ) (basket : k < 7) (made : List Entry) (inside before : List ℕ)
-    (P : Planning b draw k made inside before) (j : ℕ) (e : Entry) (l : j < length made) (E : e ≡ get_or made j e) (rates allocable : List ℕ) (T : Tables b rates allocable) where
+-- what may be used is as long as there are issues
+pub usable-wide : {c : List ℕ} {B : Basket} {e : Entry} {used usable : List ℕ} {all : ℕ} → UsableLots c B e used usable all → length usable ≡ issues_in c
+usable-wide {c} {B} {e} {used} U = ap length U.row ∙ length-table (issues_in c) (may_use B used e.deliverer)
+
+module _ (b draw m₀ l₀ : List ℕ) (S : Start b draw m₀ l₀) (B : Basket) (basket : B.number < 7) (made : List Entry)
+    (P : Planning b draw B made) (j : ℕ) (e : Entry) (l : j < length made) (E : e ≡ get_or made j e) (T : Stocked b B.stock) where
+  abbrev k : ℕ
+  k = B.number
+
+  abbrev before : List ℕ
+  before = B.before.now
+
   abbrev m : ℕ
   m = issues_in b
 
@@ -80,25 +88,25 @@ module _ (b draw m₀ l₀ : List ℕ) (S : Start b draw m₀ l₀) (k : ℕ) (b
   done = done_at (view b) draw k j
 
   abbrev a : Allocation
-  a = next b draw m₀ l₀ S k basket made inside before P j e l E
+  a = next b draw m₀ l₀ S B basket made P j e l E
 
   h : Runnable (view b) draw
   h = runnable b draw m₀ l₀ S
 
   part : Part (view b) draw (done ++ (a ∷ []))
-  part = next-part b draw m₀ l₀ S k basket made inside before P j e l E
+  part = next-part b draw m₀ l₀ S B basket made P j e l E
 
   z : Allocated (view b) a
-  z = next-allocated b draw m₀ l₀ S k basket made inside before P j e l E
+  z = next-allocated b draw m₀ l₀ S B basket made P j e l E
 
   deliverer : d < participants_in b
-  deliverer = deliverer-of-day b draw m₀ l₀ S k basket made inside before P j e l E
+  deliverer = deliverer-of-day b draw m₀ l₀ S B basket made P j e l E
 
   receiver : r < participants_in b
-  receiver = receiver-of-day b draw m₀ l₀ S k basket made inside before P j e l E
+  receiver = receiver-of-day b draw m₀ l₀ S B basket made P j e l E
 
   amount : e.amount.0 ≡ a.match.amount
-  amount = sym (next-amount b draw m₀ l₀ S k basket made inside before P j e l E)
+  amount = sym (next-amount b draw m₀ l₀ S B basket made P j e l E)
 
   -- ---- bounds, from the whole run
 
@@ -133,13 +141,13 @@ module _ (b draw m₀ l₀ : List ℕ) (S : Start b draw m₀ l₀) (k : ℕ) (b
   unfolding used
   used-more i =
       more_yes (λ x. eqb x.match.deliverer d) (λ x. get_or x.filled.lots i 0) done a
-      (eq-eqb a.match.deliverer d (next-deliverer b draw m₀ l₀ S k basket made inside before P j e l E))
+      (eq-eqb a.match.deliverer d (next-deliverer b draw m₀ l₀ S B basket made P j e l E))
 
   used-else : (p i : ℕ) → d ≢ p → used (done ++ (a ∷ [])) p i ≡ used done p i
   unfolding used
   used-else p i other =
       more_no (λ x. eqb x.match.deliverer p) (λ x. get_or x.filled.lots i 0) done a
-      (ne_eqb a.match.deliverer p (λ q. other (sym (next-deliverer b draw m₀ l₀ S k basket made inside before P j e l E) ∙ q)))
+      (ne_eqb a.match.deliverer p (λ q. other (sym (next-deliverer b draw m₀ l₀ S B basket made P j e l E) ∙ q)))
 
   used-few : (i : ℕ) → i < m → used done d i + get_or a.filled.lots i 0 ≤ 200_000_000
   unfolding used view
@@ -169,7 +177,7 @@ module _ (b draw m₀ l₀ : List ℕ) (S : Start b draw m₀ l₀) (k : ℕ) (b
   lots-few i q =
       omega (
         arith,
-        more_yes (λ x. eqb x.match.deliverer d) (λ x. all_lots x.filled i) done a (eq-eqb a.match.deliverer d (next-deliverer b draw m₀ l₀ S k basket made inside before P j e l E)),
+        more_yes (λ x. eqb x.match.deliverer d) (λ x. all_lots x.filled i) done a (eq-eqb a.match.deliverer d (next-deliverer b draw m₀ l₀ S B basket made P j e l E)),
         part-total (view b) draw (λ x. pick (eqb x.match.deliverer d) (all_lots x.filled i) 0) part,
         lots-from-most (view b) draw h d i deliverer q,
       )
@@ -207,47 +215,52 @@ module _ (b draw m₀ l₀ : List ℕ) (S : Start b draw m₀ l₀) (k : ℕ) (b
     deliverer-few : d < 12
     deliverer-few = omega (arith, deliverer, S.book.sizes.few)
 
-    terms-rated : Rates (book_terms c) rates
-    terms-rated = subst (λ (ts : List Terms). Rates ts rates) (sym (terms-kept b S.book done c R.booked)) T.rated
+    rates-same : RatesOf c B.stock
+    rates-same = record {
+      there = omega (arith, issues-same, T.rates.there);
+      rated = subst (λ (ts : List Terms). Rates ts B.stock.rates.now) (sym (terms-kept b S.book done c R.booked)) T.rates.rated;
+    }
 
-    pub usable-asks : (usable : List ℕ) → length usable ≡ 32 → UsableAsked c e rates inside allocable used' usable
-    usable-asks usable v = record {
+    pub usable-asks : (places : ℕ) → places ≡ issues_in c → UsableAsked c B e used' places
+    usable-asks places v = record {
       sized = sized-kept b S.book done c R.booked;
       deliverer = omega (arith, deliverer, S.book.sizes.few);
-      rated = terms-rated;
-      stock = T.stock.places;
+      rates = rates-same;
+      marked = omega (arith, ap length P.inside_is, length-table (issues_in b) (inside_of b k), issues-same);
+      stock = T.lots.places;
       gone = R.places;
-      allocable_most = λ i x. omega (arith, T.stock.each d i deliverer (omega (arith, issues-same)), allocable-few i (omega (arith, issues-same)));
+      allocable_most = λ i x. omega (arith, T.lots.each d i deliverer (omega (arith, issues-same)), allocable-few i (omega (arith, issues-same)));
       enough = λ i x v.
           omega (
             arith,
-            T.stock.each d i deliverer (omega (arith, issues-same)),
+            T.lots.each d i deliverer (omega (arith, issues-same)),
             R.gone d i deliverer (omega (arith, issues-same)),
             used-enough i (omega (arith, issues-same)),
           );
-      wide = v;
+      row = v;
     }
 
     -- the deliverers' rankings are those of the book as it was
-    pub orders-kept : (orders : List ℕ) → Orders c orders → Orders b orders
+    pub orders-kept : (orders : List (ArrayVec ℕ)) → Orders c orders → Orders b orders
     orders-kept orders O = orders-moved c b issues-same (λ p i y x. notice-same p i y (omega (arith, issues-same))) O
 
-    module _ (usable' : List ℕ) (all : ℕ) (U : UsableLots c e inside allocable used' usable' all) where
-      usable_at : (i : ℕ) → i < issues_in c → get_or usable' i 0 ≡ may_use inside allocable used' d i
-      usable_at i x = sym (get_or-take (issues_in c) usable' i 0 x) ∙ ap (λ (v : List ℕ). get_or v i 0) U.row ∙ get_or-table (issues_in c) (may_use inside allocable used' d) i 0 x
+    module _ (usable' : List ℕ) (all : ℕ) (U : UsableLots c B e used' usable' all) where
+      usable_at : (i : ℕ) → i < issues_in c → get_or usable' i 0 ≡ may_use B used' d i
+      usable_at i x = ap (λ (v : List ℕ). get_or v i 0) U.row ∙ get_or-table (issues_in c) (may_use B used' d) i 0 x
 
       -- an order of the book as it was is one of the book as it is
-      order-now : (order : List ℕ) → OrderedAt b before e (may_use inside allocable used' d) order → OrderedAt c before e (λ i. get_or usable' i 0) order
+      order-now : (order : List ℕ) → OrderedAt b before e (may_use B used' d) order → OrderedAt c before e (λ i. get_or usable' i 0) order
       order-now order o =
           ordered-moved (sym issues-same) (λ i x. ap (λ (v : ℕ). order_key pref v (get_or before (32 * d + i) 0)) (sym (notice-same d i deliverer-few x)))
           (λ i x. omega (arith, usable_at i (omega (arith, issues-same)))) o
 
-      pub order-asks : (last : Option Entry) (orders order : List ℕ) → Orders b orders → (0 < length order → Same last e → OrderedAt b before e (may_use inside allocable used' d) order)
+      pub order-asks : (last : Option Entry) (orders : List (ArrayVec ℕ)) (order : List ℕ) → Orders b orders → (0 < length order → Same last e → OrderedAt b before e (may_use B used' d) order)
           → OrderAsked c before last e usable' orders order
       order-asks last orders order O same = record {
         amount = amount_most;
         loadable = record {
           sized = sized-kept b S.book done c R.booked;
+          usable_there = omega (arith, usable-wide U);
           deliverer = deliverer-few;
           notified_most = λ i x. omega (arith, notice-same d i deliverer-few (omega (arith, issues-same)), lots-notified i (omega (arith, issues-same)));
           earlier = P.earlier;
@@ -256,14 +269,14 @@ module _ (b draw m₀ l₀ : List ℕ) (S : Start b draw m₀ l₀) (k : ℕ) (b
         last_is = λ x s. order-now order (same x s);
       }
 
-    module _ (usable' : List ℕ) (all : ℕ) (U : UsableLots c e inside allocable used' usable' all) (orders order : List ℕ) (O : OrderFor c before e usable' all orders order) where
-      pub fill-asks : (lots : List ℕ) → lots ≡ zeros (issues_in c) → Fillable c e rates usable' all order lots
+    module _ (usable' : List ℕ) (all : ℕ) (U : UsableLots c B e used' usable' all) (orders : List (ArrayVec ℕ)) (order : List ℕ) (O : OrderFor c before e usable' all orders order) where
+      pub fill-asks : (lots : List ℕ) → lots ≡ zeros (issues_in c) → Fillable c B.stock e usable' all order lots
       fill-asks lots v = record {
         sized = sized-kept b S.book done c R.booked;
         deliverer = omega (arith, deliverer, S.book.sizes.few);
         amount = amount_most;
-        rated = terms-rated;
-        wide = U.wide;
+        rates = rates-same;
+        wide = usable-wide U;
         most = U.most;
         worth_is = U.worth_is;
         named = O.named;
@@ -272,7 +285,7 @@ module _ (b draw m₀ l₀ : List ℕ) (S : Start b draw m₀ l₀) (k : ℕ) (b
 
       module _ (f : Filling) (lots : List ℕ) (A : FilledAs (filled_in c k e usable' order) f lots) where
         F : FilledAs a.filled f lots
-        F = subst (λ (x : Filled). FilledAs x f lots) (next-filled b draw m₀ l₀ S k basket made inside before P j e l E rates allocable T c used' t R usable' all U orders order O) A
+        F = subst (λ (x : Filled). FilledAs x f lots) (next-filled b draw m₀ l₀ S B basket made P j e l E T c used' t R usable' all U orders order O) A
 
         row-size : length lots ≡ m
         row-size = ap length F.lots_are ∙ issues
@@ -298,7 +311,7 @@ module _ (b draw m₀ l₀ : List ℕ) (S : Start b draw m₀ l₀) (k : ℕ) (b
             book = R.booked.size;
             deliverer = omega (arith, deliverer, S.book.sizes.few);
             receiver = omega (arith, receiver, S.book.sizes.few);
-            apart = λ x. z.apart (next-deliverer b draw m₀ l₀ S k basket made inside before P j e l E ∙ x ∙ sym (next-receiver b draw m₀ l₀ S k basket made inside before P j e l E));
+            apart = λ x. z.apart (next-deliverer b draw m₀ l₀ S B basket made P j e l E ∙ x ∙ sym (next-receiver b draw m₀ l₀ S B basket made P j e l E));
             few = omega (arith, row-size, S.book.sizes.most);
             gone = R.places;
             small = λ i x. omega (arith, used-at i (omega (arith, row-size)), used-few i (omega (arith, row-size)), all_is i, lots-few i (omega (arith, row-size, issues)));
@@ -339,15 +352,15 @@ module _ (b draw m₀ l₀ : List ℕ) (S : Start b draw m₀ l₀) (k : ℕ) (b
                   W.gone.kept (32 * p + i) (λ o w s. e (omega (arith, row-size, S.book.sizes.most))) ∙ R.gone p i x v ∙ sym (used-else p i e)
 
           -- less may be used than before, so that the order is still right
-          less-usable : (i : ℕ) → i < m → may_use inside allocable used'' d i ≤ get_or usable' i 0
+          less-usable : (i : ℕ) → i < m → may_use B used'' d i ≤ get_or usable' i 0
           less-usable i x =
               omega (
                 arith,
                 usable_at usable' all U i (omega (arith, issues-same)),
-                usable-falls (get_or inside i 0) (get_or allocable (32 * d + i) 0) (get_or used' (32 * d + i) 0) (get_or used'' (32 * d + i) 0) (omega (arith, W.gone.more i (omega (arith, row-size)))),
+                usable-falls (get_or B.inside.now i false) (get_or B.stock.allocable.now (32 * d + i) 0) (get_or used' (32 * d + i) 0) (get_or used'' (32 * d + i) 0) (omega (arith, W.gone.more i (omega (arith, row-size)))),
               )
 
-          pub order-next : 0 < length order → OrderedAt b before e (may_use inside allocable used'' d) order
+          pub order-next : 0 < length order → OrderedAt b before e (may_use B used'' d) order
           order-next x =
               ordered-moved issues-same (λ i v. ap (λ (w : ℕ). order_key pref w (get_or before (32 * d + i) 0)) (notice-same d i deliverer-few (omega (arith, issues-same))))
               (λ i v. less-usable i (omega (arith, issues-same))) (O.listed x)
@@ -356,7 +369,7 @@ module _ (b draw m₀ l₀ : List ℕ) (S : Start b draw m₀ l₀) (k : ℕ) (b
           running_more =
               let both : (t'.lines.now ≡ over l₀ 0 (joined (line_list (done ++ (a ∷ []))))) × (t'.counts.lines ≡ length (line_list (done ++ (a ∷ [])))) =
               rows_more l₀ t.lines.now t'.lines.now done a t.counts.matches t.counts.lines t'.counts.lines (lots_with f lots) R.rows R.match_count R.line_count (omega (arith, lines_fit, S.line_places)) lines-is W.listed in
-              subst (λ (x : List Allocation). Running b m₀ l₀ x c' used'' t') (sym (next-is b draw m₀ l₀ S k basket made inside before P j e l E)) (record {
+              subst (λ (x : List Allocation). Running b m₀ l₀ x c' used'' t') (sym (next-is b draw m₀ l₀ S B basket made P j e l E)) (record {
                 booked = booked-more b S.book draw h done a part z c W.between c' (lots_with f lots) R.booked yen moved (all-size a.filled f lots F forced ∙ issues) all_is;
                 places = W.gone.size ∙ R.places;
                 gone = gone;

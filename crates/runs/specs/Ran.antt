@@ -6,14 +6,15 @@ use Rattle.rule.specs.Run.{allocations, ran, match_list, line_list}
 use Rattle.rule.specs.Layout.{notices_at, view, stored}
 use Rattle.records.specs.declared.listing.Lists.{Lists}
 use Rattle.orders.specs.Sizes.{participants_in, issues_in}
-use Rattle.runs.specs.Running.{Start, Running, Tables}
+use Rattle.stock.specs.declared.Stock.{Stock}
+use Rattle.runs.specs.Running.{Start, Running, Stocked}
 
--- the seven baskets: a run may begin, its tables are there, and nothing is listed
-pub record BasketsAsk (b draw rates allocable : List ℕ) (t : Lists) : Type 0 where
+-- the seven baskets: a run may begin, its stock is there, and nothing is listed
+pub record BasketsAsk (b draw : List ℕ) (s : Stock) (t : Lists) : Type 0 where
   pub start : Start b draw t.matches.now t.lines.now
   pub no_match : t.counts.matches ≡ 0
   pub no_line : t.counts.lines ≡ 0
-  pub tables : Tables b rates allocable
+  pub stocked : Stocked b s
 
 -- all matches of the run are filled, listed and booked
 pub record BasketsDone (b draw m₀ l₀ b' : List ℕ) (t : Lists) : Type 0 where

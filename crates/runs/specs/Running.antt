@@ -1,7 +1,8 @@
 -- A run in progress: the matches filled so far, and what stands where. Assumes nothing.
 use Rattle.std.specs.Prelude.{◌≡◌, ◌≢◌, List, [], ◌∷◌, ◌++◌, map, ℕ, ◌+◌, ◌-◌, ◌*◌, ◌≤◌, ◌<◌, length, get_or, take, ltb}
 use Rattle.lists.specs.Tests.{pick}
-use Rattle.lists.specs.Tables.{up_to, cell}
+use Rattle.arrayvec.specs.ArrayVec.{ArrayVec}
+use Rattle.lists.specs.Tables.{up_to, table, cell}
 use Rattle.lists.specs.Folds.{foldl, joined}
 use Rattle.lists.specs.Parts.{over}
 use Rattle.rule.specs.Day.{Day, mark}
@@ -10,15 +11,16 @@ use Rattle.rule.specs.Calls.{match_size, line_size, most_matches, most_lines}
 use Rattle.rule.specs.Layout.{book_length, view, signed}
 use Rattle.rule.proofs.BookLaws.{SoundBook}
 use Rattle.rule.proofs.DrawLaws.{EachOnce}
-use Rattle.value.specs.Rated.{Rates}
 use Rattle.matching.specs.Plans.{match_of}
 use Rattle.matching.specs.declared.Match.{Match as Entry}
 use Rattle.stock.specs.Stock.{inside_of, Allocable}
+use Rattle.stock.specs.declared.Stock.{Stock}
 use Rattle.records.specs.declared.listing.Lists.{Lists}
 use Rattle.records.specs.Booked.{position_at, mark_at, tally_of}
 use Rattle.orders.specs.Sizes.{participants_in, issues_in}
 use Rattle.orders.specs.Orders.{Orders}
-use Rattle.matched.specs.Filled.{book_terms}
+use Rattle.matched.specs.Filled.{RatesOf}
+use Rattle.matched.specs.declared.Basket.{Basket}
 
 -- ---- the matches so far
 
@@ -82,43 +84,42 @@ pub record Running (b₀ m₀ l₀ : List ℕ) (done : List Allocation) (b used'
   pub line_count : t.counts.lines ≡ length (line_list done)
 
 -- and the deliverers' issues by notified lots
-pub record Done (b₀ m₀ l₀ : List ℕ) (done : List Allocation) (b orders used' : List ℕ) (t : Lists) : Type 0 where
+pub record Done (b₀ m₀ l₀ : List ℕ) (done : List Allocation) (b : List ℕ) (orders : List (ArrayVec ℕ)) (used' : List ℕ) (t : Lists) : Type 0 where
   pub running : Running b₀ m₀ l₀ done b used' t
   pub kept : Orders b₀ orders
 
 -- ---- what a basket's step and its loop ask
 
--- the tables of a run
-pub record Tables (b rates allocable : List ℕ) : Type 0 where
-  pub rated : Rates (book_terms b) rates
-  pub stock : Allocable b allocable
+-- the stock of a run, from the book as it was
+pub record Stocked (b : List ℕ) (s : Stock) : Type 0 where
+  pub rates : RatesOf b s
+  pub lots : Allocable b s.allocable.now
 
-pub record Begun (b₀ draw m₀ l₀ : List ℕ) (k : ℕ) (b rates allocable orders used' : List ℕ) (t : Lists) : Type 0 where
+pub record Begun (b₀ draw m₀ l₀ : List ℕ) (k : ℕ) (b : List ℕ) (s : Stock) (orders : List (ArrayVec ℕ)) (used' : List ℕ) (t : Lists) : Type 0 where
   pub start : Start b₀ draw m₀ l₀
   pub basket : k < 7
-  pub tables : Tables b₀ rates allocable
+  pub stocked : Stocked b₀ s
   pub running : Running b₀ m₀ l₀ (done_to (view b₀) draw k) b used' t
   pub kept : Orders b₀ orders
 
 -- some book and lists from which the run began
-pub record BasketAsks (k : ℕ) (b draw rates allocable orders used' : List ℕ) (t : Lists) : Type 0 where
+pub record BasketAsks (k : ℕ) (b draw : List ℕ) (s : Stock) (orders : List (ArrayVec ℕ)) (used' : List ℕ) (t : Lists) : Type 0 where
   pub b₀ : List ℕ
   pub m₀ : List ℕ
   pub l₀ : List ℕ
-  pub begun : Begun b₀ draw m₀ l₀ k b rates allocable orders used' t
+  pub begun : Begun b₀ draw m₀ l₀ k b s orders used' t
 
--- the plan of basket k, its issues, and the lots used before it
-pub record Planning (b₀ draw : List ℕ) (k : ℕ) (made : List Entry) (inside before : List ℕ) : Type 0 where
-  pub planned : map match_of made ≡ basket_plan (view b₀) draw k
-  pub wide : length inside ≡ 32
-  pub inside_at : (i : ℕ) → i < issues_in b₀ → get_or inside i 0 ≡ inside_of b₀ k i
-  pub earlier : length before ≡ 384
-  pub before_at : (d i : ℕ) → d < participants_in b₀ → i < issues_in b₀ → get_or before (32 * d + i) 0 ≡ used (done_to (view b₀) draw k) d i
+-- the plan of the basket, its issues, and the lots used before it
+pub record Planning (b₀ draw : List ℕ) (B : Basket) (made : List Entry) : Type 0 where
+  pub planned : map match_of made ≡ basket_plan (view b₀) draw B.number
+  pub inside_is : B.inside.now ≡ table (issues_in b₀) (inside_of b₀ B.number)
+  pub earlier : length B.before.now ≡ 384
+  pub before_at : (d i : ℕ) → d < participants_in b₀ → i < issues_in b₀ → get_or B.before.now (32 * d + i) 0 ≡ used (done_to (view b₀) draw B.number) d i
 
-pub record AllocateAsks (k : ℕ) (b : List ℕ) (made : List Entry) (rates inside allocable before orders used' : List ℕ) (t : Lists) : Type 0 where
+pub record AllocateAsks (B : Basket) (b : List ℕ) (made : List Entry) (orders : List (ArrayVec ℕ)) (used' : List ℕ) (t : Lists) : Type 0 where
   pub b₀ : List ℕ
   pub draw : List ℕ
   pub m₀ : List ℕ
   pub l₀ : List ℕ
-  pub begun : Begun b₀ draw m₀ l₀ k b rates allocable orders used' t
-  pub planning : Planning b₀ draw k made inside before
+  pub begun : Begun b₀ draw m₀ l₀ B.number b B.stock orders used' t
+  pub planning : Planning b₀ draw B made

@@ -5,36 +5,28 @@ ghost use Rattle.runs.specs.Running.{Start};
 ghost use Rattle.runs.specs.Ran.{BasketsAsk, BasketsDone, Cleared, Ran};
 
 use crate::basket;
+use ordering::Order;
 use records::listing::Lists;
 use rule::Counts;
+use stock::Stock;
 
 // "Basket by basket, A first".
-fn run_baskets(
-    book: &mut [u64],
-    draw: &[u64],
-    rates: &[u64; 32],
-    allocable: &[u64],
-    lists: &mut Lists,
-)
-    requires { BasketsAsk book.old draw.now rates.now allocable.now lists.old }
+fn run_baskets(book: &mut [u64], draw: &[u64], stock: Stock, lists: &mut Lists)
+    requires { BasketsAsk book.old draw.now stock lists.old }
     ensures done { BasketsDone book.old draw.now lists.old.matches.now lists.old.lines.now book.new lists.new }
     ensures same { SameLists lists.old lists.new }
 {
     let mut used = [0u64; 384];
-    // one for all baskets: zeros for each would be overwritten at once
-    let mut before = [0u64; 384];
-    // no row of issues is ranked yet
-    let mut orders = [32u64; 384];
+    // no deliverer's issues are ranked yet
+    let mut orders: [Order; 12] = Default::default();
     for k in 0..layout::BASKETS {
         basket::run_basket(
             &mut *book,
             k,
             draw,
-            rates,
-            allocable,
+            stock,
             &mut orders[..],
-            &mut used[..],
-            &mut before,
+            &mut used,
             &mut *lists,
         );
     }
@@ -60,10 +52,15 @@ pub fn run(book: &mut [u64], draw: &[u64], matches: &mut [u64], lines: &mut [u64
     ensures { Ran book.old draw.now matches.old lines.old book.new matches.new lines.new result.matches result.lines }
 {
     let issues = book[layout::ISSUES] as usize;
-    let mut rates = [0u64; 32];
-    value::rates_of(&book[layout::TERMS..layout::RECEIPTS], &mut rates[..issues]);
+    let mut cells = [0u64; 32];
+    let rates = &mut cells[..issues];
+    value::rates_of(&book[layout::TERMS..layout::RECEIPTS], &mut *rates);
     let mut allocable = [0u64; 384];
     stock::allocable_rows(&*book, &mut allocable[..]);
+    let stock = Stock {
+        rates,
+        allocable: &allocable[..],
+    };
     let mut lists = Lists {
         matches,
         lines,
@@ -72,7 +69,7 @@ pub fn run(book: &mut [u64], draw: &[u64], matches: &mut [u64], lines: &mut [u64
             lines: 0,
         },
     };
-    run_baskets(&mut *book, draw, &rates, &allocable[..], &mut lists);
+    run_baskets(&mut *book, draw, stock, &mut lists);
     clear_notices(&mut *book);
     book[layout::RUNS] = book[layout::RUNS] + 1;
     lists.counts

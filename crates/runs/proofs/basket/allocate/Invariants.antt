@@ -5,7 +5,7 @@ use Rattle.runs.proofs.basket.allocate.Given as goal
 
 abbrev pub invariant-loop-m : goal.invariant-loop-m
 invariant-loop-m l =
-    Allocating l.basket l.initial.book l.plan l.rates l.inside l.allocable l.before l.initial.orders l.initial.used l.initial.lists l.book l.orders l.used l.order.items l.lists l.last l.usable l.m-index
+    Allocating l.basket l.initial.book l.plan l.initial.orders l.initial.used l.initial.lists l.book l.orders l.used l.order.items l.lists l.last l.usable l.m-index
 
 abbrev pub decreases-loop-m : goal.decreases-loop-m
 decreases-loop-m l = length l.plan - l.m-index

@@ -1,6 +1,6 @@
 -- `runs::whole::run` meets its contract. Assumes nothing.
 use Rattle.std.proofs.Common.{◌∙◌, ap, arith, length, length-set, refl, rules, sym}
-use Rattle.runs.proofs.RanLaws.{rates-lent, rates-back, stock-asked, clear-asked, run-done, runs-few}
+use Rattle.runs.proofs.RanLaws.{rates-lent, stocked, stock-asked, clear-asked, run-done, runs-few}
 use Rattle.runs.proofs.whole.run.Goals as goal
 
 pub bounds-book-1 : goal.bounds-book-1
@@ -15,11 +15,11 @@ rates_of-requires c = rates-lent _ _ _ _ c.requires _ refl
 pub allocable_rows-requires : goal.allocable_rows-requires
 allocable_rows-requires c = stock-asked _ _ _ _ c.requires _ refl
 
-pub slice_bounds-run_baskets-end : goal.slice_bounds-run_baskets-end
-slice_bounds-run_baskets-end c = sym c.allocable_rows.ensures.places
+pub slice_bounds-stock-end : goal.slice_bounds-stock-end
+slice_bounds-stock-end c = sym c.allocable_rows.ensures.places
 
 pub run_baskets-requires : goal.run_baskets-requires
-run_baskets-requires c = record { start = c.requires; no_match = refl; no_line = refl; tables = record { rated = rates-back _ _ _ _ c.requires _ refl _ c.rates_of.auto.rates c.rates_of.ensures; stock = c.allocable_rows.ensures } }
+run_baskets-requires c = record { start = c.requires; no_match = refl; no_line = refl; stocked = stocked _ _ _ _ c.requires _ refl c.rates_of.auto.rates c.rates_of.ensures c.allocable_rows.ensures }
 
 pub clear_notices-requires : goal.clear_notices-requires
 clear_notices-requires c = clear-asked _ _ _ _ c.requires c.run_baskets.ensures.done
