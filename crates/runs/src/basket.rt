@@ -57,14 +57,16 @@ fn allocate(
     }
 }
 
-// A basket's matches: planned, filled, listed and booked. `used` are the lots used in the run so far.
+// A basket's matches: planned, filled, listed and booked. `used` are the lots used in the run so far; `before` is lent for those used
+// before the basket: a local copy is cleared first in each basket, and run 2 misses its bar (tests/performance.sh).
 pub fn run_basket(
     book: &mut [u64],
     number: usize,
     draw: &[u64],
     stock: Stock,
     orders: &mut [Order],
-    used: &mut [u64; 384],
+    used: &mut [u64],
+    before: &mut [u64; 384],
     lists: &mut Lists,
 )
     requires { BasketAsks number book.old draw.now stock orders.old used.old lists.old }
@@ -78,7 +80,7 @@ pub fn run_basket(
     let mut marks = [false; 32];
     let inside = &mut marks[..issues];
     stock::mark_issues(&*book, number as u64, &mut *inside);
-    let before = *used;
+    before.copy_from_slice(used);
     let basket = Basket {
         number,
         stock,

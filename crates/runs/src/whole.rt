@@ -17,6 +17,8 @@ fn run_baskets(book: &mut [u64], draw: &[u64], stock: Stock, lists: &mut Lists)
     ensures same { SameLists lists.old lists.new }
 {
     let mut used = [0u64; 384];
+    // one for all baskets: zeros for each would be overwritten at once
+    let mut before = [0u64; 384];
     // no deliverer's issues are ranked yet
     let mut orders: [Order; 12] = Default::default();
     for k in 0..layout::BASKETS {
@@ -26,7 +28,8 @@ fn run_baskets(book: &mut [u64], draw: &[u64], stock: Stock, lists: &mut Lists)
             draw,
             stock,
             &mut orders[..],
-            &mut used,
+            &mut used[..],
+            &mut before,
             &mut *lists,
         );
     }
