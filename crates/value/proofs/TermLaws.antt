@@ -72,15 +72,18 @@ chunk-count : (k : ℕ) (terms : List ℕ) → length (first_chunks 6 k terms) �
 chunk-count zero terms = refl
 chunk-count (suc k) terms = ap suc (chunk-count k (drop 6 terms))
 
--- for callers: the first issues of them
-pub terms-cut : (issues : ℕ) (terms : List ℕ) → 6 * issues ≤ length terms → map terms_of (take issues (first_chunks 6 (length terms / 6) terms)) ≡ terms_in issues terms
-unfolding terms_in
-terms-cut issues terms h =
-    let k : ℕ = length terms / 6 in
+first-rows : (issues k : ℕ) (terms : List ℕ) → issues ≤ k → take issues (first_chunks 6 k terms) ≡ grid terms 0 6 issues 6
+first-rows issues k terms h =
     let cut : List (List ℕ) = take issues (first_chunks 6 k terms) in
     let long : length cut ≡ issues = length-take-le issues (first_chunks 6 k terms) (omega (arith, chunk-count k terms)) in
-    ap (map terms_of) (ext_get_or [] cut (grid terms 0 6 issues 6) (long ∙ sym (length-table issues (λ p. block terms (0 + 6 * p) 6)))
-    (λ p l. let b : p < issues = omega (arith, long) in get_or-take issues (first_chunks 6 k terms) p [] b ∙ chunk k terms p (omega arith) ∙ sym (row_at terms issues 6 p b)))
+    ext_get_or [] cut (grid terms 0 6 issues 6) (long ∙ sym (length-table issues (λ p. block terms (0 + 6 * p) 6)))
+    (λ p l. let b : p < issues = omega (arith, long) in get_or-take issues (first_chunks 6 k terms) p [] b ∙ chunk k terms p (omega arith) ∙ sym (row_at terms issues 6 p b))
+
+-- for callers: the terms of the day's issues, which come first
+pub terms-cut : (issues : ℕ) (terms : List ℕ) {cs : List (List ℕ)} → cs ≡ first_chunks 6 (length terms / 6) terms → 6 * issues ≤ length terms
+    → map terms_of (take issues cs) ≡ terms_in issues terms
+unfolding terms_in
+terms-cut issues terms e h = ap (λ (rows : List (List ℕ)). map terms_of (take issues rows)) e ∙ ap (map terms_of) (first-rows issues (length terms / 6) terms (omega arith))
 
 -- ---- rates, written issue by issue
 
