@@ -21,7 +21,7 @@ pub record Supplied (terms rates notified usable order : List ℕ) (all : ℕ) :
   pub issues_most : length usable ≤ 32
   pub cells : 6 * length usable ≤ length terms
   pub rates_there : length usable ≤ length rates
-  pub notified_there : length notified ≡ length usable
+  pub notified_there : length usable ≤ length notified
   pub rated : Rates (terms_in (length usable) terms) rates
   pub usable_most : (i : ℕ) → i < length usable → get_or usable i 0 ≤ 200_000_000
   pub named : Named (length usable) order

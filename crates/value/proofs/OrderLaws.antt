@@ -34,3 +34,6 @@ module _ (a b : ℕ) {r : Bool} where
 
   pub eq_yes : r ≡ eqb a b → r ≡ true → a ≡ b
   eq_yes e h = grind (arith, nat_tests)
+
+  pub eq_no : r ≡ eqb a b → r ≡ false → a ≡ b → ⊥
+  eq_no e h q = grind (arith, nat_tests)
