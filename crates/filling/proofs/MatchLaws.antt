@@ -105,11 +105,6 @@ module _ (preferential : Bool) (ts : List Terms) (usable order : List ℕ) (f am
       let z : covered amount (worth ts usable) ≡ 0 = rw w at e in
       otherwise runs (inl h) ∙ rw (z, fill_none preferential ts usable order)
 
--- nothing is forced: in a run before the third, or where what may be used is worth the amount
-pub enough : (runs amount all : ℕ) → (2 ≤ runs × amount ≤ all) ⊎ (runs < 2) → (runs < 2) ⊎ (amount ≤ all)
-enough runs amount all (inl h) = inr h.1
-enough runs amount all (inr h) = inl h
-
 -- ---- where filling does not go through the issues
 
 module _ (runs all amount : ℕ) where

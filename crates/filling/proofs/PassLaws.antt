@@ -250,7 +250,7 @@ module _ (ts : List Terms) (priced : Priced ts) (usable : List ℕ) (order : Lis
         ∙ walk-idle ts priced amount bound (drop k order) (every_drop _ k order named) (foldl (take_up_to ts amount bound) s (take k order)) g r
 
     -- a match ends with its third pass, which is all of a preferential one
-    pub fill-is : (preferential : Bool) → fill preferential ts usable order amount ≡ walk ts amount may order (begun preferential ts usable order amount Rest)
+    fill-is : (preferential : Bool) → fill preferential ts usable order amount ≡ walk ts amount may order (begun preferential ts usable order amount Rest)
     unfolding fill fill_preferential fill_drawn
     fill-is true = refl
     fill-is false = refl

@@ -115,17 +115,12 @@ module _ {terms rates notified usable order : List ℕ} {all : ℕ} (d : Supplie
   named : Every (λ i. i < length ts) order
   named = every-index (λ i. i < length ts) 0 order (λ k b. omega (arith, d.named.inside k b, sized))
 
-  -- nothing is held, and it is worth nothing
-  nothing-held : {amount : ℕ} {lots : List ℕ} → 0 < amount → Asked (length usable) amount lots → Holds ts amount (nothing (length usable)) lots 0
-  nothing-held {amount} some a = record {
-    below = some;
-    held = record { cells = a.empty; sum = sym (nothing-worth ts priced usable order amount (sym sized) named) };
-  }
-
-  -- some amount is to be filled
+  -- nothing is held, it is worth nothing, and some amount is to be filled
   pub begin : {preferential : Bool} {amount : ℕ} {lots : List ℕ} → (amount ≡ 0 → ⊥) → Asked (length usable) amount lots
       → AtPass preferential terms usable order amount 0 lots 0
-  begin some a = record { holds = nothing-held (omega arith) a }
+  begin {amount = amount} some a = record {
+    holds = record { below = omega arith; held = record { cells = a.empty; sum = sym (nothing-worth ts priced usable order amount (sym sized) named) } };
+  }
 
   -- ---- one turn
 

@@ -1,9 +1,8 @@
 -- `filling::Supply::fill_match` meets its contract. Assumes nothing.
-use Rattle.std.proofs.Common.{length, arith, refl, inl, inr}
+use Rattle.std.proofs.Common.{length, arith, refl, rules}
 use Rattle.value.specs.Rated.{terms_in}
-use Rattle.value.proofs.OrderLaws.{lt-yes, lt-no}
+use Rattle.value.proofs.OrderLaws.{lt-yes}
 use Rattle.filling.proofs.MatchLaws.{row-places, carried, carry-filled, third-short, otherwise}
-use Rattle.filling.proofs.Supply.fill_match.Goals.{else-runs-ge2-via-then-runs-ge2+else-lt, else-runs-ge2-via-else-runs-ge2}
 use Rattle.filling.proofs.Supply.fill_match.Goals as goal
 
 pub force-requires : goal.force-requires
@@ -20,8 +19,5 @@ fill-requires c = carried _ c.requires c.covered-part.ensures
 pub returns : goal.returns
 returns c =
     let s = c.args.self.now in
-    rw (otherwise _ (terms_in (length s.usable.now) s.terms.now) _ _ _ c.args.amount.0 s.supplied.all_is c.args.runs (elim c.else-runs-ge2.branch [
-      | else-runs-ge2-via-then-runs-ge2+else-lt w ↦ inr (lt-no _ _ w.lt.ensures w.if-lt.false)
-      | else-runs-ge2-via-else-runs-ge2 w ↦ inl w.if-runs-ge2.false
-    ]))
+    rw (otherwise _ (terms_in (length s.usable.now) s.terms.now) _ _ _ c.args.amount.0 s.supplied.all_is c.args.runs (search rules))
     (carry-filled _ _ _ _ _ s.supplied.all_is c.covered-part.ensures c.fill.ensures refl refl refl)
