@@ -55,9 +55,9 @@ module _ {terms rates notified usable order : List ℕ} {all : ℕ} (d : Supplie
   abbrev ts : List Terms
   ts = terms_in (length usable) terms
 
-  module _ (basket : ℕ) {i : ℕ} (e : i ≡ forced_issue basket ts notified) where
+  module _ (basket : ℕ) (row : List ℕ) {i : ℕ} (e : i ≡ forced_issue basket ts row) where
     pub forced-below : i < length usable
-    forced-below = omega (arith, e, forced-inside basket ts (omega (arith, terms-length (length usable) terms, d.issues_least)) notified, terms-length (length usable) terms)
+    forced-below = omega (arith, e, forced-inside basket ts (omega (arith, terms-length (length usable) terms, d.issues_least)) row, terms-length (length usable) terms)
 
     in-terms : i < length ts
     in-terms = omega (arith, forced-below, terms-length (length usable) terms)
@@ -74,7 +74,7 @@ module _ {terms rates notified usable order : List ℕ} {all : ℕ} (d : Supplie
     pub force-filled : {amount further : ℕ} {lots : List ℕ} {r : Filling}
         → ((t : Terms) → Rated t (get_or rates i 0) → further ≡ fewest t (amount - besides t (get_or usable i 0) all) - get_or usable i 0)
         → lots ≡ usable → r.covered.0 ≡ amount → r.forced ≡ i → r.forced_lots.0 ≡ further
-        → FilledAs (force ts usable (forced_issue basket ts notified) amount) r lots
+        → FilledAs (force ts usable (forced_issue basket ts row) amount) r lots
     unfolding force
     force-filled g l c f x =
         let b : besides (get_or ts i no_terms) (get_or usable i 0) all ≡ others ts taken i = omega (arith, its-part) in
@@ -104,11 +104,6 @@ module _ (preferential : Bool) (ts : List Terms) (usable order : List ℕ) (f am
   uncovered runs h e =
       let z : covered amount (worth ts usable) ≡ 0 = rw w at e in
       otherwise runs (inl h) ∙ rw (z, fill_none preferential ts usable order)
-
--- nothing is forced: in a run before the third, or where what may be used is worth the amount
-pub enough : (runs amount all : ℕ) → (2 ≤ runs × amount ≤ all) ⊎ (runs < 2) → (runs < 2) ⊎ (amount ≤ all)
-enough runs amount all (inl h) = inr h.1
-enough runs amount all (inr h) = inl h
 
 -- ---- where filling does not go through the issues
 

@@ -1,11 +1,12 @@
--- The passes of a drawn match, with what stands in each: the code's turn is the rule's step, and where the amount is
--- reached the rest of this pass and the later ones change nothing. Assumes nothing.
+-- The passes of a match, with what stands in each: the code's turn is the rule's step, and where the amount is reached the rest of
+-- this pass and the later ones change nothing. Assumes nothing.
 use mathlib.Core.Path.{◌≡◌, refl, ◌∙◌}
 use mathlib.Core.Logic.{◌≢◌}
 use Prim.Native.Nat.{ℕ, ◌-◌, ◌*◌, ◌/◌, ◌≤◌, ◌<◌, min, max}
 use native.Mathlib.Nat.{le_refl, le_trans}
 use native.Mathlib.Decide.{dec_le}
 use native.Mathlib.Omega.{arith}
+use mathlib.Core.Bool.{Bool, true, false}
 use mathlib.Core.List.{List, [], ◌∷◌}
 use lib.ListN.{length, get_or, take, drop}
 use lib.Seq.{get_or-set_other}
@@ -13,7 +14,7 @@ use Rattle.lists.specs.Tables.{zeros}
 use Rattle.lists.specs.Folds.{foldl, Every}
 use Rattle.lists.proofs.TableLaws.{length-table, get_or-zeros, set-kept}
 use Rattle.rule.specs.Value.{Terms, no_terms, value, fewest, most}
-use Rattle.rule.specs.Filling.{worth, Taken, nothing, lots_of, others, become, take_up_to, walk, fill_preferential, unit, target, take_units, first_pass, with_remainder, second_pass, fill_drawn}
+use Rattle.rule.specs.Filling.{worth, Taken, nothing, lots_of, others, become, take_up_to, walk, fill_preferential, unit, target, take_units, first_pass, with_remainder, second_pass, fill_drawn, fill}
 use Rattle.rule.proofs.ValueLaws.{value-strict, most-keeps, most-greatest}
 use Rattle.rule.proofs.FillingLaws.{Priced, Good, Units as Whole, apart, worth-zeros, become-same, walk-good, walk-idle, pass-good}
 use Rattle.turns.specs.Turns.{besides, up_to, whole_units}
@@ -28,19 +29,27 @@ step ts usable order amount Units = take_units ts (target amount) usable
 step ts usable order amount Remainders = take_up_to ts amount (with_remainder usable (first_pass ts usable order amount))
 step ts usable order amount Rest = take_up_to ts amount (λ i. get_or usable i 0)
 
-abbrev pub begun : List Terms → List ℕ → List ℕ → ℕ → Pass → Taken
-begun ts usable order amount Units = nothing (length usable)
-begun ts usable order amount Remainders = first_pass ts usable order amount
-begun ts usable order amount Rest = second_pass ts usable order amount
+abbrev pub begun : Bool → List Terms → List ℕ → List ℕ → ℕ → Pass → Taken
+begun preferential ts usable order amount Units = nothing (length usable)
+begun preferential ts usable order amount Remainders = first_pass ts usable order amount
+begun true ts usable order amount Rest = nothing (length usable)
+begun false ts usable order amount Rest = second_pass ts usable order amount
 
-abbrev pub over : List Terms → List ℕ → List ℕ → ℕ → Pass → Taken
-over ts usable order amount Units = first_pass ts usable order amount
-over ts usable order amount Remainders = second_pass ts usable order amount
-over ts usable order amount Rest = fill_drawn ts usable order amount
+abbrev pub over : Bool → List Terms → List ℕ → List ℕ → ℕ → Pass → Taken
+over preferential ts usable order amount Units = first_pass ts usable order amount
+over preferential ts usable order amount Remainders = second_pass ts usable order amount
+over preferential ts usable order amount Rest = fill preferential ts usable order amount
 
 -- what the match has after k issues of the pass
-abbrev pub after : List Terms → List ℕ → List ℕ → ℕ → Pass → ℕ → Taken
-after ts usable order amount p k = foldl (step ts usable order amount p) (begun ts usable order amount p) (take k order)
+abbrev pub after : Bool → List Terms → List ℕ → List ℕ → ℕ → Pass → ℕ → Taken
+after preferential ts usable order amount p k = foldl (step ts usable order amount p) (begun preferential ts usable order amount p) (take k order)
+
+-- a pass that a match of the sort has
+abbrev pub Has : Bool → Pass → Type 0
+Has true Units = ⊥
+Has true Remainders = ⊥
+Has true Rest = Unit {0}
+Has false p = Unit {0}
 
 -- what a turn of the pass asks of what the match has
 pub record Stands (ts : List Terms) (usable order : List ℕ) (amount : ℕ) (pass : Pass) (s : Taken) : Type 0 where
@@ -188,7 +197,7 @@ module _ (ts : List Terms) (priced : Priced ts) (usable : List ℕ) (order : Lis
       turned = λ i h. rw (besides-others s i h b.good.sized, between-units s b i);
     }
 
-    between-at : (k : ℕ) → Between (after ts usable order amount Remainders k)
+    between-at : (k : ℕ) → Between (foldl (take_up_to ts amount remainders) first (take k order))
     unfolding walk
     between-at k =
         let q : inside (take k order) = every_take _ k order named in
@@ -203,27 +212,31 @@ module _ (ts : List Terms) (priced : Priced ts) (usable : List ℕ) (order : Lis
         let g : Good ts remainders (second_pass ts usable order amount) = walk-good ts priced amount remainders order named first first-within in
         record { sized = g.sized; bounded = λ i. omega (arith, g.bounded i, first-units.good.bounded i) }
 
-    units-at : (k : ℕ) → Whole ts priced usable (target amount) (after ts usable order amount Units k)
+    units-at : (k : ℕ) → Whole ts priced usable (target amount) (foldl (take_units ts (target amount) usable) (nothing (length usable)) (take k order))
     units-at k = pass-good ts priced usable (target amount) (take k order) (every_take _ k order named) (nothing (length usable)) nothing-units
 
-    third_at : (k : ℕ) → Good ts may (after ts usable order amount Rest k)
-    unfolding walk
-    third_at k = walk-good ts priced amount may (take k order) (every_take _ k order named) (second_pass ts usable order amount) second-within
+    third-good : (preferential : Bool) → Good ts may (begun preferential ts usable order amount Rest)
+    third-good true = nothing-good may
+    third-good false = second-within
 
-    pub stands_at : (p : Pass) (k : ℕ) → Stands ts usable order amount p (after ts usable order amount p k)
-    stands_at Units k = stands-first _ (units-at k)
-    stands_at Remainders k = stands-second _ (between-at k)
-    stands_at Rest k = stands-third _ (third_at k)
+    third_at : (preferential : Bool) (k : ℕ) → Good ts may (after preferential ts usable order amount Rest k)
+    unfolding walk
+    third_at preferential k = walk-good ts priced amount may (take k order) (every_take _ k order named) (begun preferential ts usable order amount Rest) (third-good preferential)
+
+    pub stands_at : (preferential : Bool) (p : Pass) (k : ℕ) → Stands ts usable order amount p (after preferential ts usable order amount p k)
+    stands_at preferential Units k = stands-first _ (units-at k)
+    stands_at preferential Remainders k = stands-second _ (between-at k)
+    stands_at preferential Rest k = stands-third _ (third_at preferential k)
 
     -- an issue that is not met yet has nothing in the first pass, which keeps to its target, and whole units in the second
-    pub fresh-at : (p : Pass) (k j : ℕ) → Every (λ i. j ≢ i) (take k order)
-        → Fresh p (lots_of (after ts usable order amount p k) j) (worth ts (after ts usable order amount p k).lots) amount
-    fresh-at Units k j q = (
+    pub fresh-at : (preferential : Bool) (p : Pass) (k j : ℕ) → Every (λ i. j ≢ i) (take k order)
+        → Fresh p (lots_of (after preferential ts usable order amount p k) j) (worth ts (after preferential ts usable order amount p k).lots) amount
+    fresh-at preferential Units k j q = (
       fold-other (take_units ts (target amount) usable) (units-other (target amount)) (take k order) j q (nothing (length usable)) ∙ get_or-zeros (length usable) j,
       (units-at k).kept,
     )
-    fresh-at Remainders k j q = rw (fold-other (take_up_to ts amount remainders) (up-to-other remainders) (take k order) j q first) (first-units.whole j)
-    fresh-at Rest k j q = tt
+    fresh-at preferential Remainders k j q = rw (fold-other (take_up_to ts amount remainders) (up-to-other remainders) (take k order) j q first) (first-units.whole j)
+    fresh-at preferential Rest k j q = tt
 
     -- ---- the amount is reached
 
@@ -236,38 +249,34 @@ module _ (ts : List Terms) (priced : Priced ts) (usable : List ℕ) (order : Lis
     walk-left bound k s g r = foldl-split (take_up_to ts amount bound) order k s
         ∙ walk-idle ts priced amount bound (drop k order) (every_drop _ k order named) (foldl (take_up_to ts amount bound) s (take k order)) g r
 
+    -- a match ends with its third pass, which is all of a preferential one
+    fill-is : (preferential : Bool) → fill preferential ts usable order amount ≡ walk ts amount may order (begun preferential ts usable order amount Rest)
+    unfolding fill fill_preferential fill_drawn
+    fill-is true = refl
+    fill-is false = refl
+
     -- the rest of the pass changes nothing
-    rest : (p : Pass) (k : ℕ) → Reached (after ts usable order amount p k) → over ts usable order amount p ≡ after ts usable order amount p k
-    unfolding first_pass second_pass fill_drawn target
-    rest Units k r = foldl-split (take_units ts (target amount) usable) order k (nothing (length usable))
+    rest : (preferential : Bool) (p : Pass) (k : ℕ) → Reached (after preferential ts usable order amount p k)
+        → over preferential ts usable order amount p ≡ after preferential ts usable order amount p k
+    unfolding first_pass second_pass target
+    rest preferential Units k r = foldl-split (take_units ts (target amount) usable) order k (nothing (length usable))
         ∙ pass-idle (target amount) (drop k order) (every_drop _ k order named) _ (units-at k) (omega arith)
-    rest Remainders k r = walk-left remainders k first (between-at k).good r
-    rest Rest k r = walk-left may k (second_pass ts usable order amount) (third_at k) r
+    rest preferential Remainders k r = walk-left remainders k first (between-at k).good r
+    rest preferential Rest k r = fill-is preferential ∙ walk-left may k (begun preferential ts usable order amount Rest) (third_at preferential k) r
 
     -- nor do the later passes
-    later-second : Reached (over ts usable order amount Remainders) → fill_drawn ts usable order amount ≡ second_pass ts usable order amount
-    later-second r = rest Rest 0 r
+    later-second : Reached (second_pass ts usable order amount) → fill false ts usable order amount ≡ second_pass ts usable order amount
+    later-second r = rest false Rest 0 r
 
-    later : (p : Pass) → Reached (over ts usable order amount p) → fill_drawn ts usable order amount ≡ over ts usable order amount p
-    later Units r = let q : second_pass ts usable order amount ≡ first = rest Remainders 0 r in later-second (rw q r) ∙ q
-    later Remainders r = later-second r
-    later Rest r = refl
+    later : (preferential : Bool) (p : Pass) → Has preferential p → Reached (over preferential ts usable order amount p)
+        → fill preferential ts usable order amount ≡ over preferential ts usable order amount p
+    later true Units h r = absurd h
+    later true Remainders h r = absurd h
+    later true Rest h r = refl
+    later false Units h r = let q : second_pass ts usable order amount ≡ first = rest false Remainders 0 r in later-second (rw q r) ∙ q
+    later false Remainders h r = later-second r
+    later false Rest h r = refl
 
-    pub left : (p : Pass) (k : ℕ) → Reached (after ts usable order amount p k) → fill_drawn ts usable order amount ≡ after ts usable order amount p k
-    left p k r = let q = rest p k r in later p (rw q r) ∙ q
-
-    -- ---- the same of a preferential match, which is one walk like the third pass
-
-    abbrev pub walked : ℕ → Taken
-    walked k = foldl (take_up_to ts amount may) (nothing (length usable)) (take k order)
-
-    walked-good : (k : ℕ) → Good ts may (walked k)
-    unfolding walk
-    walked-good k = walk-good ts priced amount may (take k order) (every_take _ k order named) (nothing (length usable)) (nothing-good may)
-
-    pub walked-stands : (k : ℕ) → Stands ts usable order amount Rest (walked k)
-    walked-stands k = stands-third _ (walked-good k)
-
-    pub walked-left : (k : ℕ) → Reached (walked k) → fill_preferential ts usable order amount ≡ walked k
-    unfolding fill_preferential
-    walked-left k r = walk-left may k (nothing (length usable)) (walked-good k) r
+    pub left : (preferential : Bool) (p : Pass) → Has preferential p → (k : ℕ) → Reached (after preferential ts usable order amount p k)
+        → fill preferential ts usable order amount ≡ after preferential ts usable order amount p k
+    left preferential p h k r = let q = rest preferential p k r in later preferential p h (rw q r) ∙ q

@@ -15,13 +15,14 @@ pub record Idle (runs all amount : ℕ) : Type 0 where
   pub same : (preferential : Bool) (ts : List Terms) (usable order order' : List ℕ) (forced : ℕ) → all ≡ worth ts usable
       → filled runs preferential ts usable order forced amount ≡ filled runs preferential ts usable order' forced amount
 
--- usable lots and notified ones of each of the day's issues, with its terms and their rate; an order, and what all usable lots are worth
+-- usable lots of each of the day's issues, and rows that have its terms, their rate and its notified lots; an order, and what all usable
+-- lots are worth
 pub record Supplied (terms rates notified usable order : List ℕ) (all : ℕ) : Type 0 where
   pub issues_least : 1 ≤ length usable
   pub issues_most : length usable ≤ 32
   pub cells : 6 * length usable ≤ length terms
   pub rates_there : length usable ≤ length rates
-  pub notified_there : length notified ≡ length usable
+  pub notified_there : length usable ≤ length notified
   pub rated : Rates (terms_in (length usable) terms) rates
   pub usable_most : (i : ℕ) → i < length usable → get_or usable i 0 ≤ 200_000_000
   pub named : Named (length usable) order

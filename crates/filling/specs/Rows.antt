@@ -1,5 +1,5 @@
 -- A match's row of lots: what an issue's turn in it and filling it ask and leave. Assumes nothing.
-use Rattle.std.specs.Prelude.{◌≡◌, List, ℕ, ◌+◌, ◌≤◌, ◌<◌, length, get_or, set, Option, Some, None}
+use Rattle.std.specs.Prelude.{◌≡◌, Bool, true, false, List, [], ◌∷◌, ℕ, ◌+◌, ◌≤◌, ◌<◌, length, get_or, set, Option, Some, None}
 use Rattle.lists.specs.Tables.{zeros}
 use Rattle.rule.specs.Value.{Terms, value}
 use Rattle.rule.specs.declared.Yen.{Yen}
@@ -7,6 +7,12 @@ use Rattle.value.specs.Rated.{Rated}
 use Rattle.turns.specs.Turns.{besides, Part}
 use Rattle.turns.specs.Passes.{next_of, Turnable}
 use Rattle.turns.specs.declared.Pass.{Pass}
+use Rattle.turns.specs.declared.Pass.TheVariants.{Units, Remainders, Rest}
+
+-- the passes of a match, in their order
+abbrev pub passes_of : Bool → List Pass
+passes_of true = Rest ∷ []
+passes_of false = Units ∷ Remainders ∷ Rest ∷ []
 
 -- the turn of issue i in a row of lots
 pub record Ready (pass : Pass) (rates lots usable : List ℕ) (i reached amount : ℕ) : Type 0 where
@@ -35,11 +41,6 @@ Stepped pass w lots usable i reached amount after r =
 pub record Asked (issues amount : ℕ) (lots : List ℕ) : Type 0 where
   pub amount_most : amount ≤ 10_000_000_000_000
   pub empty : lots ≡ zeros issues
-
--- and some amount is to be filled
-pub record Wanted (issues amount : ℕ) (lots : List ℕ) : Type 0 where
-  pub some : 0 < amount
-  pub asked : Asked issues amount lots
 
 -- an order names issues of the day, none of them twice
 pub record Named (issues : ℕ) (order : List ℕ) : Type 0 where

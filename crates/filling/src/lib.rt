@@ -1,10 +1,10 @@
 // How many lots of which issues a match gets. Everything is by issue number; rates stand for prices.
 #![tactic(auto)]
 
-ghost use Rattle.std.specs.Prelude.{◌≡◌, false, length, get_or};
-ghost use Rattle.rule.specs.Filling.{covered as covered_of, fill_preferential, fill_drawn, fill as fill_of, forced_issue, force as force_of, carry as carry_of, filled};
+ghost use Rattle.std.specs.Prelude.{◌≡◌, false, length, get_or, take};
+ghost use Rattle.rule.specs.Filling.{covered as covered_of, fill as fill_of, forced_issue, force as force_of, filled};
 ghost use Rattle.value.specs.Rated.{terms_in};
-ghost use Rattle.filling.specs.Rows.{Ready, Stepped, Asked, Wanted};
+ghost use Rattle.filling.specs.Rows.{passes_of, Ready, Stepped, Asked};
 ghost use Rattle.filling.specs.Match.{Coverable, Idle, Supplied, Forcible, FilledAs};
 
 use rule::{Lots, Yen};
@@ -12,19 +12,20 @@ use turns::{Pass, Standing};
 use value::Rate;
 
 // "the shortage is rounded up to 10,000,000 yen, at most the amount .. the rest is the covered amount".
+#[tactic(auto, unfolding(rule::specs::Filling::covered, rule::specs::Filling::shortage))]
 pub fn covered(amount: Yen, usable: Yen) -> Yen
     requires { Coverable amount.0 }
     ensures { result.0 ≡ covered_of amount.0 usable.0 }
 {
-    if amount.0 <= usable.0 {
+    if amount <= usable {
         return amount;
     }
     let missing = amount.0 - usable.0;
-    let shortage = (missing + 9_999_999) / 10_000_000 * 10_000_000;
-    if amount.0 <= shortage {
+    let shortage = Yen((missing + 9_999_999) / 10_000_000 * 10_000_000);
+    if amount <= shortage {
         return Yen(0);
     }
-    Yen(amount.0 - shortage)
+    Yen(amount.0 - shortage.0)
 }
 
 // Whether filling goes through the issues: not where what is short is forced, or nothing is covered.
@@ -32,14 +33,25 @@ pub fn goes_through(runs: u64, all: Yen, amount: Yen) -> bool
     requires { Coverable amount.0 }
     ensures { result ≡ false → Idle runs all.0 amount.0 }
 {
-    if amount.0 <= all.0 {
+    if amount <= all {
         return true;
     }
     if runs >= 2 {
         return false;
     }
     let rest = covered(amount, all);
-    rest.0 > 0
+    rest > Yen(0)
+}
+
+// "A preferential match walks the issues .. A drawn match has three passes".
+fn passes_of(preferential: bool) -> &'static [Pass]
+    ensures { result.now ≡ passes_of preferential }
+{
+    if preferential {
+        &[Pass::Rest]
+    } else {
+        &[Pass::Units, Pass::Remainders, Pass::Rest]
+    }
 }
 
 // A match as it was filled, beside its lots: the covered amount, and the forced issue and lots, "both 0 if none". No Option: the list's
@@ -66,7 +78,8 @@ pub struct Supply<'a> {
 
 impl Supply<'_> {
     // One match, filled: `runs` are the runs done, and the lots go into a lent row of zeros. What is short is forced in run 3 and carried
-    // before; where nothing is short, all of the amount is covered.
+    // before: "the shortage .. stays in both positions; the rest is the covered amount and is filled afresh". Where nothing is short, all
+    // of the amount is covered.
     pub fn fill_match(
         &self,
         runs: u64,
@@ -76,21 +89,28 @@ impl Supply<'_> {
         lots: &mut [u64],
     ) -> Filling
         requires { Asked (length self.now.usable.now) amount.0 lots.old }
-        ensures { FilledAs (filled runs preferential (terms_in (length self.now.usable.now) self.now.terms.now) self.now.usable.now self.now.order.now (forced_issue basket (terms_in (length self.now.usable.now) self.now.terms.now) self.now.notified.now) amount.0) result lots.new }
+        ensures { FilledAs (filled runs preferential (terms_in (length self.now.usable.now) self.now.terms.now) self.now.usable.now self.now.order.now (forced_issue basket (terms_in (length self.now.usable.now) self.now.terms.now) (take (length self.now.usable.now) self.now.notified.now)) amount.0) result lots.new }
     {
-        if runs >= 2 && self.all.0 < amount.0 {
+        if runs >= 2 && self.all < amount {
             return self.force(basket, amount, lots);
         }
-        self.carry(preferential, amount, lots)
+        let part = covered(amount, self.all);
+        self.fill(preferential, part, lots);
+        Filling {
+            covered: part,
+            forced: 0,
+            forced_lots: Lots(0),
+        }
     }
 
     // "In run 3 all usable lots go, and the fewest further lots of one forced issue reach the amount".
     fn force(&self, basket: u64, amount: Yen, lots: &mut [u64]) -> Filling
         requires { Forcible (length self.now.usable.now) self.now.all.0 amount.0 (length lots.old) }
-        ensures { FilledAs (force_of (terms_in (length self.now.usable.now) self.now.terms.now) self.now.usable.now (forced_issue basket (terms_in (length self.now.usable.now) self.now.terms.now) self.now.notified.now) amount.0) result lots.new }
+        ensures { FilledAs (force_of (terms_in (length self.now.usable.now) self.now.terms.now) self.now.usable.now (forced_issue basket (terms_in (length self.now.usable.now) self.now.terms.now) (take (length self.now.usable.now) self.now.notified.now)) amount.0) result lots.new }
     {
         lots.copy_from_slice(self.usable);
-        let i = forced::forced_issue(self.terms, basket, self.notified);
+        let notified = &self.notified[..self.usable.len()];
+        let i = forced::forced_issue(self.terms, basket, notified);
         let standing = Standing {
             rate: Rate(self.rates[i]),
             had: Lots(self.usable[i]),
@@ -104,67 +124,24 @@ impl Supply<'_> {
         }
     }
 
-    // "the shortage .. stays in both positions; the rest is the covered amount and is filled afresh".
-    fn carry(&self, preferential: bool, amount: Yen, lots: &mut [u64]) -> Filling
-        requires { Asked (length self.now.usable.now) amount.0 lots.old }
-        ensures { FilledAs (carry_of preferential (terms_in (length self.now.usable.now) self.now.terms.now) self.now.usable.now self.now.order.now amount.0) result lots.new }
-    {
-        let part = covered(amount, self.all);
-        self.fill(preferential, part, lots);
-        Filling {
-            covered: part,
-            forced: 0,
-            forced_lots: Lots(0),
-        }
-    }
-
-    // Usable lots for the amount, in a match that has nothing yet.
+    // Usable lots for the amount, in a match that has nothing yet. "A preferential match walks the issues .. and ends with the fewest lots
+    // that reach the amount. A drawn match has three passes .. filling leaves both walks when the amount is reached".
     fn fill(&self, preferential: bool, amount: Yen, lots: &mut [u64])
         requires { Asked (length self.now.usable.now) amount.0 lots.old }
         ensures { lots.new ≡ (fill_of preferential (terms_in (length self.now.usable.now) self.now.terms.now) self.now.usable.now self.now.order.now amount.0).lots }
     {
-        if amount.0 == 0 {
+        if amount == Yen(0) {
             return;
         }
-        if preferential {
-            self.fill_preferential(amount, lots);
-        } else {
-            self.fill_drawn(amount, lots);
-        }
-    }
-
-    // "A preferential match walks the issues .. and ends with the fewest lots that reach the amount".
-    fn fill_preferential(&self, amount: Yen, lots: &mut [u64])
-        requires { Wanted (length self.now.usable.now) amount.0 lots.old }
-        ensures { lots.new ≡ (fill_preferential (terms_in (length self.now.usable.now) self.now.terms.now) self.now.usable.now self.now.order.now amount.0).lots }
-    {
         let mut reached = Yen(0);
-        for issue in self.order {
-            let i = *issue as usize;
-            if let Some(worth) = self.take_turn(Pass::Rest, i, reached, amount, lots) {
-                reached = worth;
-                if amount.0 <= worth.0 {
-                    break;
-                }
-            }
-        }
-    }
-
-    // "A drawn match has three passes .. filling leaves both walks when the amount is reached". So its inner loop is no function that a
-    // preferential match has too.
-    fn fill_drawn(&self, amount: Yen, lots: &mut [u64])
-        requires { Wanted (length self.now.usable.now) amount.0 lots.old }
-        ensures { lots.new ≡ (fill_drawn (terms_in (length self.now.usable.now) self.now.terms.now) self.now.usable.now self.now.order.now amount.0).lots }
-    {
-        let mut reached = Yen(0);
-        'passes: for pass in [Pass::Units, Pass::Remainders, Pass::Rest] {
+        'passes: for pass in passes_of(preferential) {
             for issue in self.order {
                 let i = *issue as usize;
-                let Some(worth) = self.take_turn(pass, i, reached, amount, lots) else {
+                let Some(worth) = self.take_turn(*pass, i, reached, amount, lots) else {
                     continue;
                 };
                 reached = worth;
-                if amount.0 <= reached.0 {
+                if amount <= reached {
                     break 'passes;
                 }
             }

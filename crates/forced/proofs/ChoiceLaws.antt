@@ -1,13 +1,13 @@
 -- The forced issue, chosen on the way down the issues. Assumes nothing.
 use mathlib.Core.Path.{◌≡◌, refl, sym, ap, subst, ◌∙◌}
 use mathlib.Core.Logic.{◌⊎◌, inl, inr, ⊎_elim}
-use Prim.Native.Nat.{ℕ, suc, ◌+◌, ◌-◌, ◌*◌, ◌≤◌, ◌<◌, suc-le-suc}
+use Prim.Native.Nat.{ℕ, suc, ◌+◌, ◌-◌, ◌≤◌, ◌<◌, suc-le-suc}
 use native.Mathlib.Nat.{le_refl, not-suc-le-zero}
 use native.Mathlib.Decide.{ℕ_discrete}
 use native.Mathlib.Omega.{arith}
 use mathlib.Core.Bool.{Bool, true, false, ◌&&◌}
-use mathlib.Core.List.{List, [], ◌∷◌}
-use lib.ListN.{length, get_or}
+use mathlib.Core.List.{List, [], ◌∷◌, map}
+use lib.ListN.{length, get_or, length-map, get_or-map}
 use lib.Dec.{eqb, leb, ltb}
 use borrow.Author.Tests.{eq-eqb, ne_eqb, lt-ltb, le-ltb, le-leb, lt-leb}
 use Rattle.std.specs.Prelude.{Option, Some, None}
@@ -18,13 +18,10 @@ use Rattle.lists.specs.Folds.{keep, Every}
 use Rattle.lists.proofs.TestLaws.{pick_yes, pick_no, pick-elim, stop, go, and_no, all_of, all-stop}
 use Rattle.lists.proofs.FoldLaws.{every_map, every-from, every-at, every_get, every-keep, keep-cong, keep-none}
 use Rattle.rule.specs.Value.{Terms, no_terms}
-use Rattle.rule.specs.Baskets.{within}
-use Rattle.rule.specs.Allocable.{unmarked}
+use Rattle.rule.specs.Day.{terms_of}
 use Rattle.rule.specs.Filling.{eligible, or_else, most_notified, fifth_largest, forced_issue}
-use Rattle.value.specs.Rated.{terms_in}
-use Rattle.value.proofs.TermLaws.{terms-length, kind_at, redeemed-at, interest-at}
 use Rattle.baskets.specs.Kinds.{KindsOf}
-use Rattle.forced.specs.Choice.{noted, is_eligible, ten_year, fifth_among, FirstOf, BestAt, BestOf, least_of, FifthAt, FifthOf}
+use Rattle.forced.specs.Choice.{noted, takes, is_eligible, ten_year, fifth_among, FirstOf, BestAt, BestOf, most_of, FifthAt, FifthOf}
 use Rattle.forced.specs.declared.Best.{Best}
 use Rattle.forced.specs.declared.Fifth.{Fifth}
 
@@ -62,13 +59,18 @@ module _ (n : ℕ → ℕ) {l : List ℕ} {most issue : ℕ} (h : BestAt n l mos
   }
 
 module _ (n : ℕ → ℕ) (l : List ℕ) (i : ℕ) where
-  pub best-kept : (b : Option Best) → BestOf n l b → n i < least_of b → (e : Bool) → BestOf n (pick e (i ∷ l) l) b
-  best-kept None h k e = stays n h i (inl (omega arith)) e
-  best-kept (Some b) h k e = (h.0, stays n h.1 i (inr k) e)
+  -- the issue met has none, or fewer than the best so far, or is not eligible
+  pub best-none : (b : Option Best) → BestOf n l b → n i ≤ 0 → (e : Bool) → BestOf n (pick e (i ∷ l) l) b
+  best-none None h k e = stays n h i (inl (omega arith)) e
+  best-none (Some b) h k e = (h.0, stays n h.1 i (inl (omega arith)) e)
 
-  pub best-met : (b : Option Best) → BestOf n l b → {most : ℕ} → least_of b ≤ most → most ≡ n i → (0 < most) × BestAt n (i ∷ l) most i
-  best-met None h k e = rw e (omega arith, met n h i (omega arith))
-  best-met (Some b) h k e = rw e (omega (arith, h.0), met n h.1 i (omega arith))
+  pub best-fewer : (b : Option Best) → BestOf n l b → n i < most_of b → (e : Bool) → BestOf n (pick e (i ∷ l) l) b
+  best-fewer None h k e = absurd (omega arith)
+  best-fewer (Some b) h k e = (h.0, stays n h.1 i (inr k) e)
+
+  pub best-met : (b : Option Best) → BestOf n l b → {most : ℕ} → 0 < most → most_of b ≤ most → most ≡ n i → (0 < most) × BestAt n (i ∷ l) most i
+  best-met None h s k e = rw e (omega arith, met n h i (omega arith))
+  best-met (Some b) h s k e = rw e (omega arith, met n h.1 i (omega arith))
 
 -- ---- the fifth largest
 
@@ -180,65 +182,74 @@ module _ (k : ℕ) (ts : List Terms) (issues : ℕ) where
       let w : issues - 0 ≡ length ts = omega arith in
       rw (z, w)
 
-module _ (issues : ℕ) (terms : List ℕ) where
+module _ (issues : List (List ℕ)) where
   abbrev ts : List Terms
-  ts = terms_in issues terms
+  ts = map terms_of issues
+
+  its-terms : (i : ℕ) → get_or ts i no_terms ≡ terms_of (get_or issues i [])
+  its-terms i = get_or-map terms_of issues i []
+
+  kind-at : (i : ℕ) → (get_or ts i no_terms).kind ≡ get_or (get_or issues i []) 0 0
+  kind-at i = ap (λ (t : Terms). t.kind) (its-terms i)
 
   -- what the call says of issue i
-  abbrev Said : List ℕ → ℕ → Bool → Type 0
-  Said kinds i r = (k : ℕ) → (t : Terms) → KindsOf k kinds → t.kind ≡ get_or terms (6 * i) 0 → t.redeemed ≡ get_or terms (6 * i + 4) 0
-      → t.interest ≡ get_or terms (6 * i + 5) 0 → r ≡ (within k t && unmarked t)
+  abbrev Said : List Bool → ℕ → Bool → Type 0
+  Said kinds i r = (k : ℕ) → KindsOf k kinds → r ≡ takes k (terms_of (get_or issues i []))
 
-  pub eligible-at : {k i : ℕ} {kinds : List ℕ} {r : Bool} → i < issues → KindsOf k kinds → Said kinds i r → r ≡ is_eligible k ts i
-  eligible-at {k} {i} h q e = e k (get_or ts i no_terms) q (kind_at issues terms i h) (redeemed-at issues terms i h) (interest-at issues terms i h)
+  eligible-at : {k : ℕ} (i : ℕ) {kinds : List Bool} {r : Bool} → KindsOf k kinds → Said kinds i r → r ≡ is_eligible k ts i
+  eligible-at {k} i q e = e k q ∙ ap (takes k) (sym (its-terms i))
 
-  module _ (kinds : List ℕ) where
+  module _ (kinds : List Bool) where
     -- the best among the issues from i on
     pub record BestDown (notified : List ℕ) (i : ℕ) (b : Option Best) : Type 0 where
-      pub best : (k : ℕ) → KindsOf k kinds → BestOf (noted notified) (lower k ts issues i) b
+      pub best : (k : ℕ) → KindsOf k kinds → BestOf (noted notified) (lower k ts (length issues) i) b
 
-    pub best-none : {notified : List ℕ} → BestDown notified issues None
-    best-none = record { best = λ k q. rw (lower-none k ts issues) (record { all = tt; some = λ s. absurd (omega arith) }) }
+    pub best-begin : {notified : List ℕ} → BestDown notified (length issues) None
+    best-begin = record { best = λ k q. rw (lower-none k ts (length issues)) (record { all = tt; some = λ s. absurd (omega arith) }) }
 
-    pub best-more : {notified : List ℕ} {i j : ℕ} {b r : Option Best} → suc j ≡ i → j < issues → BestDown notified i b
-        → ((issues' k : ℕ) (n : ℕ → ℕ) (l : List ℕ) → j < issues' → KindsOf k kinds → get_or notified j 0 ≡ n j → BestOf n l b
-        → BestOf n (pick (is_eligible k (terms_in issues' terms) j) (j ∷ l) l) r) → BestDown notified j r
+    pub best-more : {notified : List ℕ} {i j : ℕ} {b r : Option Best} → suc j ≡ i → j < length issues → BestDown notified i b
+        → ((k : ℕ) (n : ℕ → ℕ) (l : List ℕ) → KindsOf k kinds → get_or notified j 0 ≡ n j → BestOf n l b
+        → BestOf n (pick (takes k (terms_of (get_or issues j []))) (j ∷ l) l) r) → BestDown notified j r
     best-more {notified} {i} {j} {b} {r} e h d f = record {
-      best = λ k q. subst (λ (l : List ℕ). BestOf (noted notified) l r) (sym (lower-more k ts issues e h)) (f issues k (noted notified) (lower k ts issues i) h q refl (d.best k q));
+      best = λ k q.
+          let l : List ℕ = lower k ts (length issues) i in
+          let said = f k (noted notified) l q refl (d.best k q) in
+          subst (λ (m : List ℕ). BestOf (noted notified) m r)
+          (ap (λ (y : Bool). pick y (j ∷ l) l) (ap (takes k) (sym (its-terms j))) ∙ sym (lower-more k ts (length issues) e h)) said;
     }
 
     pub best-all : {notified : List ℕ} {i : ℕ} {b : Option Best} → i ≤ 0 → BestDown notified i b → (k : ℕ) → KindsOf k kinds → BestOf (noted notified) (eligible k ts) b
-    best-all {notified} {i} {b} h d k q = subst (λ (l : List ℕ). BestOf (noted notified) l b) (lower-all k ts issues (terms-length issues terms) h) (d.best k q)
+    best-all {notified} {i} {b} h d k q = subst (λ (l : List ℕ). BestOf (noted notified) l b) (lower-all k ts (length issues) (length-map issues terms_of) h) (d.best k q)
 
     -- the fifth largest of kind 2, and of all, among the issues from i on
     pub record FifthDown (i : ℕ) (ten any : Option Fifth) : Type 0 where
-      pub ten_of : (k : ℕ) → KindsOf k kinds → FifthOf (ten_year ts (lower k ts issues i)) ten
-      pub any_of : (k : ℕ) → KindsOf k kinds → FifthOf (lower k ts issues i) any
+      pub ten_of : (k : ℕ) → KindsOf k kinds → FifthOf (ten_year ts (lower k ts (length issues) i)) ten
+      pub any_of : (k : ℕ) → KindsOf k kinds → FifthOf (lower k ts (length issues) i) any
 
-    pub fifth-none : FifthDown issues None None
+    pub fifth-none : FifthDown (length issues) None None
     fifth-none = record {
-      ten_of = λ k q. rw (lower-none k ts issues) (record { met_is = refl; issue_is = refl });
-      any_of = λ k q. rw (lower-none k ts issues) (record { met_is = refl; issue_is = refl });
+      ten_of = λ k q. rw (lower-none k ts (length issues)) (record { met_is = refl; issue_is = refl });
+      any_of = λ k q. rw (lower-none k ts (length issues)) (record { met_is = refl; issue_is = refl });
     }
 
-    module _ {i j : ℕ} (next : suc j ≡ i) (h : j < issues) {ten any : Option Fifth} (d : FifthDown i ten any) {r : Bool} (e : Said kinds j r) where
-      more : r ≡ true → (k : ℕ) → KindsOf k kinds → j ∷ lower k ts issues i ≡ lower k ts issues j
-      more y k q = sym (lower-more k ts issues next h ∙ pick_yes (is_eligible k ts j) _ _ (sym (eligible-at h q e) ∙ y))
+    module _ {i j : ℕ} (next : suc j ≡ i) (h : j < length issues) {ten any : Option Fifth} (d : FifthDown i ten any) {r : Bool} (e : Said kinds j r) where
+      more : r ≡ true → (k : ℕ) → KindsOf k kinds → j ∷ lower k ts (length issues) i ≡ lower k ts (length issues) j
+      more y k q = sym (lower-more k ts (length issues) next h ∙ pick_yes (is_eligible k ts j) _ _ (sym (eligible-at j q e) ∙ y))
 
-      same : r ≡ false → (k : ℕ) → KindsOf k kinds → lower k ts issues i ≡ lower k ts issues j
-      same y k q = sym (lower-more k ts issues next h ∙ pick_no (is_eligible k ts j) _ _ (sym (eligible-at h q e) ∙ y))
+      same : r ≡ false → (k : ℕ) → KindsOf k kinds → lower k ts (length issues) i ≡ lower k ts (length issues) j
+      same y k q = sym (lower-more k ts (length issues) next h ∙ pick_no (is_eligible k ts j) _ _ (sym (eligible-at j q e) ∙ y))
 
       -- an unmarked issue of the basket, of kind 2 or another
-      pub fifth-ten : {ten' any' : Option Fifth} → r ≡ true → get_or terms (6 * j) 0 ≡ 2 → ((l : List ℕ) → FifthOf l ten → FifthOf (j ∷ l) ten')
+      pub fifth-ten : {ten' any' : Option Fifth} → r ≡ true → get_or (get_or issues j []) 0 0 ≡ 2 → ((l : List ℕ) → FifthOf l ten → FifthOf (j ∷ l) ten')
           → ((l : List ℕ) → FifthOf l any → FifthOf (j ∷ l) any') → FifthDown j ten' any'
       fifth-ten {ten'} {any'} y kind f g = record {
-        ten_of = λ k q. subst (λ (l : List ℕ). FifthOf l ten') (sym (ten-more ts (lower k ts issues i) j (kind_at issues terms j h ∙ kind)) ∙ ap (ten_year ts) (more y k q)) (f _ (d.ten_of k q));
+        ten_of = λ k q. subst (λ (l : List ℕ). FifthOf l ten') (sym (ten-more ts (lower k ts (length issues) i) j (kind-at j ∙ kind)) ∙ ap (ten_year ts) (more y k q)) (f _ (d.ten_of k q));
         any_of = λ k q. subst (λ (l : List ℕ). FifthOf l any') (more y k q) (g _ (d.any_of k q));
       }
 
-      pub fifth-other : {any' : Option Fifth} → r ≡ true → (get_or terms (6 * j) 0 ≡ 2 → ⊥) → ((l : List ℕ) → FifthOf l any → FifthOf (j ∷ l) any') → FifthDown j ten any'
+      pub fifth-other : {any' : Option Fifth} → r ≡ true → (get_or (get_or issues j []) 0 0 ≡ 2 → ⊥) → ((l : List ℕ) → FifthOf l any → FifthOf (j ∷ l) any') → FifthDown j ten any'
       fifth-other {any'} y kind g = record {
-        ten_of = λ k q. subst (λ (l : List ℕ). FifthOf l ten) (sym (ten-other ts (lower k ts issues i) j (λ x. kind (sym (kind_at issues terms j h) ∙ x))) ∙ ap (ten_year ts) (more y k q)) (d.ten_of k q);
+        ten_of = λ k q. subst (λ (l : List ℕ). FifthOf l ten) (sym (ten-other ts (lower k ts (length issues) i) j (λ x. kind (sym (kind-at j) ∙ x))) ∙ ap (ten_year ts) (more y k q)) (d.ten_of k q);
         any_of = λ k q. subst (λ (l : List ℕ). FifthOf l any') (more y k q) (g _ (d.any_of k q));
       }
 
@@ -250,7 +261,7 @@ module _ (issues : ℕ) (terms : List ℕ) where
 
     pub fifth-all : {i : ℕ} {ten any : Option Fifth} → i ≤ 0 → FifthDown i ten any → (k : ℕ) → KindsOf k kinds → found (option_or ten any) ≡ fifth_among ts (eligible k ts)
     fifth-all {i} {ten} {any} h d k q =
-        let e = lower-all k ts issues (terms-length issues terms) h in
+        let e = lower-all k ts (length issues) (length-map issues terms_of) h in
         chosen ts (eligible k ts) ten any (subst (λ (l : List ℕ). FifthOf (ten_year ts l) ten) e (d.ten_of k q)) (subst (λ (l : List ℕ). FifthOf l any) e (d.any_of k q))
 
 -- ---- the forced issue is one of the day's

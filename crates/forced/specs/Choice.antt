@@ -1,5 +1,5 @@
 -- The forced issue, chosen on the way down the issues: what is known of those met so far. Assumes nothing.
-use Rattle.std.specs.Prelude.{◌≡◌, Bool, ◌&&◌, List, ◌∷◌, ℕ, ◌+◌, ◌*◌, ◌≤◌, ◌<◌, min, length, get_or, eqb, Option, Some, None}
+use Rattle.std.specs.Prelude.{◌≡◌, Bool, ◌&&◌, List, ◌∷◌, ℕ, ◌≤◌, ◌<◌, min, length, get_or, eqb, Option, Some, None}
 use Rattle.lists.specs.Folds.{keep, Every}
 use Rattle.rule.specs.Value.{Terms, no_terms}
 use Rattle.rule.specs.Baskets.{within}
@@ -8,22 +8,16 @@ use Rattle.rule.specs.Filling.{or_else, fifth_largest}
 use Rattle.forced.specs.declared.Best.{Best}
 use Rattle.forced.specs.declared.Fifth.{Fifth}
 
--- the terms of issue i are there, six cells to an issue
-pub record Termed (terms : List ℕ) (i : ℕ) : Type 0 where
-  pub there : 6 * i + 6 ≤ length terms
-
--- the terms of the day's issues
-pub record Listed (issues : ℕ) (terms : List ℕ) : Type 0 where
-  pub issues_most : issues ≤ 32
-  pub cells : 6 * issues ≤ length terms
-
 -- the notified lots of an issue
 abbrev pub noted : List ℕ → ℕ → ℕ
 noted notified i = get_or notified i 0
 
--- an unmarked issue of basket k
+-- an issue of these terms is one of basket k, and unmarked
+abbrev pub takes : ℕ → Terms → Bool
+takes k t = within k t && unmarked t
+
 abbrev pub is_eligible : ℕ → List Terms → ℕ → Bool
-is_eligible k ts i = within k (get_or ts i no_terms) && unmarked (get_or ts i no_terms)
+is_eligible k ts i = takes k (get_or ts i no_terms)
 
 -- the issues of kind 2
 abbrev pub ten_year : List Terms → List ℕ → List ℕ
@@ -51,10 +45,10 @@ abbrev pub BestOf : (ℕ → ℕ) → List ℕ → Option Best → Type 0
 BestOf n l None = BestAt n l 0 0
 BestOf n l (Some b) = (0 < b.most.0) × BestAt n l b.most.0 b.issue
 
--- the lots that make an issue the best
-abbrev pub least_of : Option Best → ℕ
-least_of None = 1
-least_of (Some b) = b.most.0
+-- the most lots so far
+abbrev pub most_of : Option Best → ℕ
+most_of None = 0
+most_of (Some b) = b.most.0
 
 pub record FifthAt (l : List ℕ) (met issue : ℕ) : Type 0 where
   pub met_is : met ≡ min 5 (length l)

@@ -1,16 +1,17 @@
 // The forced issue of a match in run 3.
 #![tactic(auto)]
 
-ghost use Rattle.std.specs.Prelude.{◌≡◌, List, ◌∷◌, ℕ, ◌<◌, length};
+ghost use Rattle.std.specs.Prelude.{◌≡◌, ◌*◌, ◌≤◌, List, ◌∷◌, map, ℕ, length};
 ghost use Rattle.lists.specs.Tests.{pick};
+ghost use Rattle.rule.specs.Day.{terms_of};
 ghost use Rattle.rule.specs.Filling.{eligible, forced_issue};
 ghost use Rattle.value.specs.Rated.{terms_in};
 ghost use Rattle.baskets.specs.Kinds.{KindsOf};
-ghost use Rattle.forced.specs.Choice.{Termed, Listed, noted, is_eligible, fifth_among, least_of, BestOf, FifthOf};
+ghost use Rattle.forced.specs.Choice.{noted, takes, fifth_among, most_of, BestOf, FifthOf};
 
 use rule::Lots;
 
-// The kind of the ten-year issues.
+// The kind of the ten-year issues: a number, as it stands in the book, which is a rule of the project.
 const TEN_YEAR: u64 = 2;
 
 // Going down the issues: the one with the most notified lots so far, which has some.
@@ -27,49 +28,42 @@ struct Fifth {
     issue: usize,
 }
 
-// The fewest notified lots with which the issue met is the best: some, and no fewer than the best so far has.
-fn least(best: Option<Best>) -> Lots
-    ensures { result.0 ≡ least_of best }
+// The most notified lots so far.
+fn most(best: Option<Best>) -> Lots
+    ensures { result.0 ≡ most_of best }
 {
-    match best {
-        Some(b) => b.most,
-        None => Lots(1),
-    }
+    best.map_or(Lots(0), |b| b.most)
 }
 
 // "the unmarked issue of this basket with the deliverer's most notified lots .. (ties: smaller ISIN)": the issue met is smaller
 // than those before. Its terms are read only where its lots are the most so far.
 fn with_notified(
-    terms: &[u64],
-    kinds: &[u8; 7],
-    i: usize,
-    notified: Lots,
     best: Option<Best>,
+    i: usize,
+    issue: &[u64; 6],
+    notified: Lots,
+    kinds: &[bool; 7],
 ) -> Option<Best>
-    requires { Termed terms.now i }
-    ensures { (issues k : ℕ) → (n : ℕ → ℕ) → (l : List ℕ) → i < issues → KindsOf k kinds.now → notified.0 ≡ n i → BestOf n l best → BestOf n (pick (is_eligible k (terms_in issues terms.now) i) (i ∷ l) l) result }
+    ensures { (k : ℕ) → (n : ℕ → ℕ) → (l : List ℕ) → KindsOf k kinds.now → notified.0 ≡ n i → BestOf n l best → BestOf n (pick (takes k (terms_of issue.now)) (i ∷ l) l) result }
 {
-    let most = least(best);
-    if notified.0 < most.0 {
-        return best;
+    if notified > Lots(0) && notified >= most(best) && baskets::is_eligible(issue, kinds) {
+        return Some(Best {
+            most: notified,
+            issue: i,
+        });
     }
-    if !baskets::is_eligible(terms, 6 * i, kinds) {
-        return best;
-    }
-    Some(Best {
-        most: notified,
-        issue: i,
-    })
+    best
 }
 
 // The unmarked issue of the basket with the most notified lots; none where none has any.
-fn most_notified(terms: &[u64], kinds: &[u8; 7], notified: &[u64]) -> Option<Best>
-    requires { Listed (length notified.now) terms.now }
-    ensures { (k : ℕ) → KindsOf k kinds.now → BestOf (noted notified.now) (eligible k (terms_in (length notified.now) terms.now)) result }
+fn most_notified(issues: &[[u64; 6]], kinds: &[bool; 7], notified: &[u64]) -> Option<Best>
+    requires { length notified.now ≡ length issues.now }
+    ensures { (k : ℕ) → KindsOf k kinds.now → BestOf (noted notified.now) (eligible k (map terms_of issues.now)) result }
 {
     let mut best = None;
-    for i in (0..notified.len()).rev() {
-        best = with_notified(terms, kinds, i, Lots(notified[i]), best);
+    // By number: `enumerate().rev()` over a `zip` was tried, and has far more to prove, of rows of two lengths.
+    for i in (0..issues.len()).rev() {
+        best = with_notified(best, i, &issues[i], Lots(notified[i]), kinds);
     }
     best
 }
@@ -93,15 +87,14 @@ fn with_issue(fifth: Option<Fifth>, i: usize) -> Option<Fifth>
 }
 
 // "the fifth largest ISIN among unmarked kind 2 issues of the basket. With no unmarked kind 2 issue there .. among all unmarked ones".
-fn fifth_largest(terms: &[u64], kinds: &[u8; 7], issues: usize) -> usize
-    requires { Listed issues terms.now }
-    ensures { (k : ℕ) → KindsOf k kinds.now → result ≡ fifth_among (terms_in issues terms.now) (eligible k (terms_in issues terms.now)) }
+fn fifth_largest(issues: &[[u64; 6]], kinds: &[bool; 7]) -> usize
+    ensures { (k : ℕ) → KindsOf k kinds.now → result ≡ fifth_among (map terms_of issues.now) (eligible k (map terms_of issues.now)) }
 {
     let mut ten = None;
     let mut any = None;
-    for i in (0..issues).rev() {
-        if baskets::is_eligible(terms, 6 * i, kinds) {
-            let kind = terms[6 * i];
+    for i in (0..issues.len()).rev() {
+        if baskets::is_eligible(&issues[i], kinds) {
+            let [kind, ..] = issues[i];
             if kind == TEN_YEAR {
                 ten = with_issue(ten, i);
             }
@@ -116,12 +109,13 @@ fn fifth_largest(terms: &[u64], kinds: &[u8; 7], issues: usize) -> usize
 
 // The issue that is forced in run 3. "With none above 0": only then are the issues gone through again.
 pub fn forced_issue(terms: &[u64], basket: u64, notified: &[u64]) -> usize
-    requires { Listed (length notified.now) terms.now }
+    requires { 6 * length notified.now ≤ length terms.now }
     ensures { result ≡ forced_issue basket (terms_in (length notified.now) terms.now) notified.now }
 {
+    let issues = &terms.as_chunks::<6>().0[..notified.len()];
     let kinds = baskets::kinds_of(basket);
-    match most_notified(terms, &kinds, notified) {
+    match most_notified(issues, &kinds, notified) {
         Some(best) => best.issue,
-        None => fifth_largest(terms, &kinds, notified.len()),
+        None => fifth_largest(issues, &kinds),
     }
 }

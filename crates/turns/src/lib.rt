@@ -12,7 +12,7 @@ use rule::{Lots, Yen};
 use value::Rate;
 
 // A unit of a drawn match's first pass.
-const UNIT: u64 = 100_000;
+const UNIT: Lots = Lots(100_000);
 
 // The passes of a drawn match. The last one is also all of a preferential match.
 #[derive(Clone, Copy)]
@@ -34,8 +34,8 @@ fn whole_units(lots: Lots) -> Lots
     requires { Few lots.0 }
     ensures { result.0 ≡ lots.0 / unit * unit }
 {
-    let units = lots.0 as u32 / UNIT as u32;
-    Lots(u64::from(units) * UNIT)
+    let units = lots.0 as u32 / UNIT.0 as u32;
+    Lots(u64::from(units) * UNIT.0)
 }
 
 // So many lots of the issue, beside others that are worth so much.
@@ -64,7 +64,7 @@ impl Standing {
     fn others(self) -> Yen
         ensures { (t : Terms) → Rated t self.rate.0 → result.0 ≡ besides t self.had.0 self.reached.0 }
     {
-        if self.had.0 == 0 {
+        if self.had == Lots(0) {
             return self.reached;
         }
         let part = self.rate.value(self.had);
@@ -77,12 +77,12 @@ impl Standing {
         requires { Raising self.had.0 bound.0 self.reached.0 amount.0 }
         ensures { (t : Terms) → Rated t self.rate.0 → Took t self.had.0 self.reached.0 (up_to t bound.0 self.had.0 self.reached.0 amount.0) result }
     {
-        if bound.0 <= self.had.0 {
+        if bound <= self.had {
             return None;
         }
         let rest = self.others();
         let all = with_lots(self.rate, rest, bound);
-        if all.reached.0 < amount.0 {
+        if all.reached < amount {
             return Some(all);
         }
         let fewest = self.rate.fewest(Yen(amount.0 - rest.0));
@@ -95,20 +95,20 @@ impl Standing {
         requires { Rounding self.had.0 usable.0 self.reached.0 target.0 }
         ensures { (t : Terms) → Rated t self.rate.0 → Took t self.had.0 self.reached.0 (whole_units t usable.0 self.had.0 self.reached.0 target.0) result }
     {
-        if usable.0 < UNIT {
+        if usable < UNIT {
             return None;
         }
-        let room = target.0 - self.reached.0;
-        if room < self.rate.least(Lots(UNIT)).0 {
+        let room = Yen(target.0 - self.reached.0);
+        if room < self.rate.least(UNIT) {
             return None;
         }
         let whole = whole_units(usable);
         let all = with_lots(self.rate, self.reached, whole);
-        if all.reached.0 <= target.0 {
+        if all.reached <= target {
             return Some(all);
         }
-        let most = self.rate.most(Yen(room));
-        Some(with_lots(self.rate, self.reached, Lots(most.0 / UNIT * UNIT)))
+        let most = self.rate.most(room);
+        Some(with_lots(self.rate, self.reached, Lots(most.0 / UNIT.0 * UNIT.0)))
     }
 
     // "each issue's remainder under a unit, as counted when the match began": the first pass took whole units. Where no further unit is
@@ -117,15 +117,16 @@ impl Standing {
         requires { Turnable Pass.Remainders self.had.0 usable.0 self.reached.0 amount.0 }
         ensures { (t : Terms) → Rated t self.rate.0 → Took t self.had.0 self.reached.0 (next_of Pass.Remainders t usable.0 self.had.0 self.reached.0 amount.0) result }
     {
-        if usable.0 - self.had.0 < UNIT {
+        let left = Lots(usable.0 - self.had.0);
+        if left < UNIT {
             return self.take_up_to(usable, amount);
         }
         let whole = whole_units(usable);
-        let remainder = usable.0 - whole.0;
-        if remainder == 0 {
+        let remainder = Lots(usable.0 - whole.0);
+        if remainder == Lots(0) {
             return None;
         }
-        self.take_up_to(Lots(self.had.0 + remainder), amount)
+        self.take_up_to(Lots(self.had.0 + remainder.0), amount)
     }
 
     // The issue's turn in a pass; none where it takes nothing.

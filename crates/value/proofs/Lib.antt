@@ -2,3 +2,4 @@
 pub mod RateLaws
 pub mod TermLaws
 pub mod SumLaws
+pub mod OrderLaws

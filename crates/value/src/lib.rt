@@ -65,7 +65,7 @@ impl Rate {
         requires { Summable self.0 lots.0 sum.0 }
         ensures { (t : Terms) → self.0 ≡ rate_of t → result.0 ≡ sum.0 + value_of t lots.0 }
     {
-        if lots.0 == 0 {
+        if lots == Lots(0) {
             return sum;
         }
         let part = self.value(lots);
@@ -78,8 +78,10 @@ pub fn rates_of(terms: &[u64], rates: &mut [u64])
     requires { Termed (length rates.old) terms.now }
     ensures { Rates (terms_in (length rates.old) terms.now) rates.new }
 {
+    let (issues, _) = terms.as_chunks::<6>();
+    // By number: `zip` over `rates.iter_mut()` was tried, but of what is written through it a proof knows nothing.
     for (i, rate) in rates.iter_mut().enumerate() {
-        let at = 6 * i;
-        *rate = Rate::of(terms[at + 1], terms[at + 2], terms[at + 3]).0;
+        let [_, price, coupon, days, _, _] = issues[i];
+        *rate = Rate::of(price, coupon, days).0;
     }
 }

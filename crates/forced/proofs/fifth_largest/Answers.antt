@@ -8,17 +8,17 @@ loop-i-preserved-then-is_eligible c =
     elim c.if-kind-eq-TEN_YEAR.branch [
       | then-kind-eq-TEN_YEAR w ↦
           rw w.ten-is
-          (fifth-ten _ _ _ (omega arith) (omega arith) c.loop-i.invariant c.is_eligible.ensures c.if-is_eligible.true w.if-kind-eq-TEN_YEAR.true w.with_issue-ten.ensures c.with_issue-any.ensures)
+          (fifth-ten _ _ (omega arith) (omega arith) c.loop-i.invariant c.is_eligible.ensures c.if-is_eligible.true w.if-kind-eq-TEN_YEAR.true w.with_issue-ten.ensures c.with_issue-any.ensures)
       | else-kind-eq-TEN_YEAR w ↦
           rw w.ten-is
-          (fifth-other _ _ _ (omega arith) (omega arith) c.loop-i.invariant c.is_eligible.ensures c.if-is_eligible.true w.if-kind-eq-TEN_YEAR.false c.with_issue-any.ensures)
+          (fifth-other _ _ (omega arith) (omega arith) c.loop-i.invariant c.is_eligible.ensures c.if-is_eligible.true w.if-kind-eq-TEN_YEAR.false c.with_issue-any.ensures)
     ]
 
 pub loop-i-preserved : goal.loop-i-preserved
-loop-i-preserved c = fifth-passed _ _ _ (omega arith) (omega arith) c.loop-i.invariant c.is_eligible.ensures c.if-is_eligible.false
+loop-i-preserved c = fifth-passed _ _ (omega arith) (omega arith) c.loop-i.invariant c.is_eligible.ensures c.if-is_eligible.false
 
 pub returns-in-Some : goal.returns-in-Some
-returns-in-Some c = λ k q. ap found (sym c.in-Some.is ∙ c.or.ensures) ∙ fifth-all _ _ _ (omega arith) c.loop-i.invariant k q
+returns-in-Some c = λ k q. ap found (sym c.in-Some.is ∙ c.or.ensures) ∙ fifth-all _ _ (omega arith) c.loop-i.invariant k q
 
 pub returns-in-None : goal.returns-in-None
-returns-in-None c = λ k q. ap found (sym c.in-None.is ∙ c.or.ensures) ∙ fifth-all _ _ _ (omega arith) c.loop-i.invariant k q
+returns-in-None c = λ k q. ap found (sym c.in-None.is ∙ c.or.ensures) ∙ fifth-all _ _ (omega arith) c.loop-i.invariant k q

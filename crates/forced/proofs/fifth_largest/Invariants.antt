@@ -3,4 +3,4 @@ use Rattle.forced.proofs.ChoiceLaws.{FifthDown}
 use Rattle.forced.proofs.fifth_largest.Given as goal
 
 abbrev pub invariant-loop-i : goal.invariant-loop-i
-invariant-loop-i l = FifthDown l.issues l.terms l.kinds l.i l.ten l.any
+invariant-loop-i l = FifthDown l.issues l.kinds l.i l.ten l.any

@@ -1,10 +1,11 @@
 -- `turns::Standing::others` meets its contract. Assumes nothing.
 use Rattle.std.proofs.Common.{◌-◌, ap, arith, ℕ}
+use Rattle.value.proofs.OrderLaws.{eq_yes}
 use Rattle.turns.proofs.TurnLaws.{besides-none, had-valuable, part-there}
 use Rattle.turns.proofs.Standing.others.Goals as goal
 
-pub returns-then-self-eq0 : goal.returns-then-self-eq0
-returns-then-self-eq0 c = λ t q. besides-none t _ c.if-self-eq0.true
+pub returns-then-eq : goal.returns-then-eq
+returns-then-eq c = λ t q. besides-none t _ (eq_yes _ _ c.eq.ensures c.if-eq.true)
 
 pub value-part-requires : goal.value-part-requires
 value-part-requires c = had-valuable c.args.self.part

@@ -1,17 +1,18 @@
 -- `turns::Standing::take_up_to` meets its contract. Assumes nothing.
 use Rattle.std.proofs.Common.{arith}
+use Rattle.value.proofs.OrderLaws.{le-yes, lt-yes, lt-no}
 use Rattle.turns.proofs.TurnLaws.{some-price, terms-of, some-terms, up_none, rest_below, bound-addable, up-all, few-addable, up-few}
 use Rattle.turns.proofs.Standing.take_up_to.Goals as goal
 
-pub returns-then-bound-self : goal.returns-then-bound-self
-returns-then-bound-self c = λ t q. up_none c.requires t c.if-bound-self.true
+pub returns-then-le : goal.returns-then-le
+returns-then-le c = λ t q. up_none c.requires t (le-yes _ _ c.le.ensures c.if-le.true)
 
 pub with_lots-all-requires : goal.with_lots-all-requires
 with_lots-all-requires c = bound-addable c.args.self.part c.requires.short c.others-rest.ensures c.requires
 
-pub returns-then-all-amount : goal.returns-then-all-amount
-returns-then-all-amount c =
-    λ t q. up-all c.args.self.part c.requires.short c.others-rest.ensures c.requires q c.with_lots-all.ensures c.if-all-amount.true
+pub returns-then-lt : goal.returns-then-lt
+returns-then-lt c =
+    λ t q. up-all c.args.self.part c.requires.short c.others-rest.ensures c.requires q c.with_lots-all.ensures (lt-yes _ _ c.lt.ensures c.if-lt.true)
 
 pub overflow_sub-amount : goal.overflow_sub-amount
 overflow_sub-amount c = omega (arith, rest_below c.args.self.part c.requires.short c.others-rest.ensures)
@@ -20,10 +21,10 @@ pub with_lots-requires : goal.with_lots-requires
 with_lots-requires c =
     let s = c.args.self.part in
     let q = some-terms s in
-    few-addable s c.requires.short c.others-rest.ensures c.requires q (omega (arith, (c.with_lots-all.ensures (terms-of _) q).worth, c.if-all-amount.false))
+    few-addable s c.requires.short c.others-rest.ensures c.requires q (omega (arith, (c.with_lots-all.ensures (terms-of _) q).worth, lt-no c.with_lots-all.result.reached.0 c.args.amount.0 c.lt.ensures c.if-lt.false))
     (c.fewest-fewest.ensures _ (some-price q) q.rated)
 
 pub returns : goal.returns
 returns c = λ t q.
-    up-few c.args.self.part c.requires.short c.others-rest.ensures c.requires q (omega (arith, (c.with_lots-all.ensures t q).worth, c.if-all-amount.false))
+    up-few c.args.self.part c.requires.short c.others-rest.ensures c.requires q (omega (arith, (c.with_lots-all.ensures t q).worth, lt-no c.with_lots-all.result.reached.0 c.args.amount.0 c.lt.ensures c.if-lt.false))
     (c.fewest-fewest.ensures t (some-price q) q.rated) c.with_lots.ensures

@@ -1,10 +1,11 @@
 -- `value::Rate::add_value` meets its contract. Assumes nothing.
 use Rattle.std.proofs.Common.{arith}
+use Rattle.value.proofs.OrderLaws.{eq_yes}
 use Rattle.value.proofs.SumLaws.{part_small, nothing-added}
 use Rattle.value.proofs.Rate.add_value.Goals as goal
 
-pub returns-then-lots-eq0 : goal.returns-then-lots-eq0
-returns-then-lots-eq0 c = λ t e. nothing-added _ c.if-lots-eq0.true t
+pub returns-then-eq : goal.returns-then-eq
+returns-then-eq c = λ t e. nothing-added _ (eq_yes _ _ c.eq.ensures c.if-eq.true) t
 
 pub overflow_add-result : goal.overflow_add-result
 overflow_add-result c = let p = c.requires in omega (arith, part_small p c.value-part.ensures, p.sum_most)

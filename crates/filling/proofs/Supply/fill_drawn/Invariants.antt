@@ -1,9 +1,0 @@
--- `filling::Supply::fill_drawn` meets its contract. Assumes nothing.
-use Rattle.filling.proofs.WalkLaws.{AtPass, InPass}
-use Rattle.filling.proofs.Supply.fill_drawn.Given as goal
-
-abbrev pub invariant-loop-issue : goal.invariant-loop-issue
-invariant-loop-issue l = InPass l.self.terms.now l.self.usable.now l.self.order.now l.amount.0 l.pass l.issue-index l.lots l.reached.0
-
-abbrev pub invariant-passes : goal.invariant-passes
-invariant-passes l = AtPass l.self.terms.now l.self.usable.now l.self.order.now l.amount.0 l.pass-index l.lots l.reached.0
