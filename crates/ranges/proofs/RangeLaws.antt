@@ -141,13 +141,36 @@ module _ (stride m : ℕ) (some : 0 < stride) (wide : m ≤ stride) where
       ap (λ (n : ℕ). all_below n (λ i. test (get_or (take m (block b (stride * p) stride)) i 0))) e
       ∙ all-ext _ _ m (λ i k. ap test (get_or-take m (block b (stride * p) stride) i 0 k ∙ block-get b (stride * p) stride i (omega arith)))
 
+  -- the rows' fronts pass a test
+  pub cut-passes : (test : ℕ → Bool) (b : List ℕ)
+      → all_below (length (cut stride b)) (λ p. all_pass test (take m (get_or (cut stride b) p []))) ≡ all_below (length b / stride) (λ p. row_passes test b (stride * p) m)
+  cut-passes test b =
+      ap (λ (n : ℕ). all_below n (λ p. all_pass test (take m (get_or (cut stride b) p [])))) (cut-count stride b)
+      ∙ all-ext _ _ (length b / stride) (λ p l. ap (λ (x : List ℕ). all_pass test (take m x)) (cut-get stride b p l) ∙ front-passes test b p (cut-room stride b p l))
+
   pub rows-cut : (bound : ℕ) (b : List ℕ)
       → all_below (length (cut stride b)) (λ p. all_pass (λ c. leb c bound) (take m (get_or (cut stride b) p []))) ≡ at_most bound (length b / stride) m (grid b 0 stride (length b / stride) m)
   rows-cut bound b =
-      ap (λ (n : ℕ). all_below n (λ p. all_pass (λ c. leb c bound) (take m (get_or (cut stride b) p [])))) (cut-count stride b)
-      ∙ all-ext _ _ (length b / stride) (λ p l. let z : stride * p ≡ 0 + stride * p = omega arith in
-      ap (λ (x : List ℕ). all_pass (λ c. leb c bound) (take m x)) (cut-get stride b p l) ∙ front-passes (λ c. leb c bound) b p (cut-room stride b p l) ∙ ap (λ (j : ℕ). row_passes (λ c. leb c bound) b j m) z)
+      cut-passes (λ c. leb c bound) b
+      ∙ all-ext _ _ (length b / stride) (λ p l. let z : stride * p ≡ 0 + stride * p = omega arith in ap (λ (j : ℕ). row_passes (λ c. leb c bound) b j m) z)
       ∙ sym (rows_are b 0 stride (length b / stride) m bound)
+
+  -- the same of n rows from a place on, lent as a slice of their own
+  pub part-cut : (test : ℕ → Bool) (b : List ℕ) (at n : ℕ) (part : List ℕ) → at + stride * n ≤ length b → part ≡ take (at + stride * n - at) (drop at b)
+      → all_below (length (cut stride part)) (λ p. all_pass test (take m (get_or (cut stride part) p []))) ≡ all_below n (λ p. row_passes test b (at + stride * p) m)
+  part-cut test b at n part h e =
+      let same : part ≡ block b at (stride * n) = e ∙ part-is b at (stride * n) in
+      let k : length part / stride ≡ n = ap (λ (l : ℕ). l / stride) (ap length e ∙ part_length b at (stride * n) h) ∙ mul-div_cancel_left n some in
+      cut-passes test part ∙ ap₂ (λ (j : ℕ) (x : List ℕ). all_below j (λ p. row_passes test x (stride * p) m)) k same
+      ∙ all-ext _ _ n (λ p l. all-ext _ _ m (λ i j. let z : at + (stride * p + i) ≡ at + stride * p + i = omega arith in
+      ap test (block-get b at (stride * n) (stride * p + i) (omega (arith, mul-le-mul_left stride l, mul-suc stride p, wide)) ∙ ap (λ (o : ℕ). get_or b o 0) z)))
+
+-- rows of a part, as a slice of its own
+pub rows-there : (bound : ℕ) (b : List ℕ) (at stride n m : ℕ) (part : List ℕ) → 0 < stride → m ≤ stride → at + stride * n ≤ length b → part ≡ take (at + stride * n - at) (drop at b)
+    → at_most bound (length part / stride) m (grid part 0 stride (length part / stride) m) ≡ at_most bound n m (grid b at stride n m)
+rows-there bound b at stride n m part some w h e =
+    let k : length part / stride ≡ n = ap (λ (l : ℕ). l / stride) (ap length e ∙ part_length b at (stride * n) h) ∙ mul-div_cancel_left n some in
+    ap₂ (λ (j : ℕ) (t : List (List ℕ)). at_most bound j m t) k (ap (λ (j : ℕ). grid part 0 stride j m) k ∙ grid-there b at stride n m part h e w)
 
 -- ---- n rows gone through one after the other
 
@@ -229,3 +252,13 @@ module _ (b : List ℕ) (stride n : ℕ) (w : Squares b stride n) where
       ∙ all-ext _ _ 7 (λ k l. ap (λ (x : List ℕ). square_fits x 0 stride n) (cut-get (stride * stride) b k (omega (arith, seven)))
       ∙ square-there b (stride * stride * k) (stride * stride) stride n w.apart.wide (mul-le-mul_left stride w.apart.wide))
       ∙ sym (marks-are b (stride * stride) stride n)
+
+-- marks of a part, as a slice of its own
+pub marks-there : (b : List ℕ) (at stride n : ℕ) (part : List ℕ) → n ≤ stride → part ≡ take (at + stride * stride * 7 - at) (drop at b)
+    → table 7 (λ k. grid part (stride * stride * k) stride n n) ≡ table 7 (λ k. grid b (at + stride * stride * k) stride n n)
+marks-there b at stride n part h e =
+    ap (λ (x : List ℕ). table 7 (λ k. grid x (stride * stride * k) stride n n)) (e ∙ part-is b at (stride * stride * 7))
+    ∙ table-agree 7 _ _ (λ k l. table-agree n _ _ (λ p j. let z : at + (stride * stride * k + stride * p) ≡ at + stride * stride * k + stride * p = omega arith in
+    block-within b at (stride * stride * 7) (stride * stride * k + stride * p) n
+    (omega (arith, mul-le-mul_left (stride * stride) l, mul-suc (stride * stride) k, mul-le-mul_left stride j, mul-suc stride p, mul-le-mul_left stride h, h))
+    ∙ ap (λ (o : ℕ). block b o n) z))
