@@ -1,5 +1,5 @@
 -- Soundness as tests on cells: signed cells, baskets, and the whole. Assumes nothing.
-use Rattle.std.proofs.Common.{◌≡◌, ℕ, zero, suc, ◌+◌, ◌-◌, ◌*◌, ◌%◌, ◌<◌, ◌≤◌, Bool, true, false, not, ◌&&◌, ◌||◌, eqb, leb, List, [], ◌∷◌, length, get_or, take, drop, sym, refl, ap, ◌∙◌, le_refl, add-one, arith, length-drop, take_all, take-suc, drop-drop, le-ltb, lt-ltb, le-leb, leb-true}
+use Rattle.std.proofs.Common.{◌≡◌, ℕ, zero, suc, ◌+◌, ◌-◌, ◌*◌, ◌/◌, ◌%◌, ◌<◌, ◌≤◌, Bool, true, false, not, ◌&&◌, ◌||◌, eqb, leb, List, [], ◌∷◌, length, get_or, take, drop, sym, refl, ap, ◌∙◌, le_refl, add-one, arith, take_all, take-suc, le-ltb, lt-ltb, le-leb, leb-true}
 use native.Mathlib.Decide.{dec_le, dec_lt}
 use mathlib.Core.Bool.{and_assoc}
 use lib.ListN.{length-map, get_or-map}
@@ -12,7 +12,7 @@ use Rattle.lists.specs.Parts.{block, grid}
 use Rattle.lists.proofs.TestLaws.{both_ways, pick-cases, all_none, all_more, all_of, all-stop, all-through, all-at, and_left, and_right, row-stop}
 use Rattle.lists.proofs.FoldLaws.{total-append}
 use Rattle.lists.proofs.TableLaws.{length-table, get_or-table}
-use Rattle.lists.proofs.PartLaws.{part-is, block-get, table-agree}
+use Rattle.lists.proofs.PartLaws.{part-is, part_length, block-get}
 use Rattle.rule.specs.Value.{Terms, no_terms}
 use Rattle.rule.specs.Baskets.{within}
 use Rattle.rule.specs.Allocable.{unmarked}
@@ -21,7 +21,7 @@ use Rattle.rule.specs.Day.{terms_of}
 use Rattle.rule.specs.Sound.{position_limit, tradable}
 use Rattle.rule.specs.Layout.{terms_at, plus, minus}
 use Rattle.ranges.specs.Ranges.{all_pass, row_passes}
-use Rattle.ranges.proofs.RangeLaws.{part-passes}
+use Rattle.ranges.proofs.RangeLaws.{part-passes, grid-there}
 use Rattle.book.specs.Sized.{book_terms, eligible_at, is_within, basket_fits}
 
 -- ---- a signed cell
@@ -185,9 +185,8 @@ module _ (b : List ℕ) (limit n k at : ℕ) (room : at + n ≤ length b) where
 
 -- ---- the codes
 
--- the part `&b[o..]`, as the borrow checker states it
-rest-is : (b : List ℕ) (o : ℕ) → take (length b - o) (drop o b) ≡ drop o b
-rest-is b o = take_all (length b - o) (drop o b) (rw length-drop (le_refl _))
-
-pub codes-there : (b : List ℕ) (o n : ℕ) → grid (take (length b - o) (drop o b)) 0 12 n 12 ≡ grid b o 12 n 12
-codes-there b o n = table-agree n _ _ (λ p l. let e : o + (0 + 12 * p) ≡ o + 12 * p = omega arith in rw (rest-is, drop-drop, e))
+pub codes-there : (b : List ℕ) (o n : ℕ) (part : List ℕ) → o + 12 * n ≤ length b → part ≡ take (o + 12 * n - o) (drop o b) → grid part 0 12 (length part / 12) 12 ≡ grid b o 12 n 12
+codes-there b o n part h e =
+    let long : length part ≡ 12 * n = ap length e ∙ part_length b o (12 * n) h in
+    let k : length part / 12 ≡ n = omega arith in
+    ap (λ (m : ℕ). grid part 0 12 m 12) k ∙ grid-there b o 12 n 12 part h e (le_refl 12)

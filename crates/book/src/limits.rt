@@ -1,4 +1,4 @@
-// The limits of a book's numbers, in yen and in lots.
+// The limits of a book's numbers, in yen and in lots: numbers too, as the book's cells are (a rule of the project).
 
 // "scheduled receipts (0 to 10^12 lots by participant and issue)"
 pub const RECEIPT: u64 = 1000000000000;

@@ -1,14 +1,15 @@
 // When a book is sound, for a slice of any length and content. No place beyond the day's sizes is read.
 ghost use Rattle.std.specs.Prelude.{◌≡◌, ◌+◌, ◌*◌, ◌<◌, ◌≤◌, nat_le, slice_index, slice_index_or};
 ghost use Rattle.lists.specs.Parts.{grid};
-ghost use Rattle.rule.specs.Sound.{position_limit, at_most, marks_fit, tradable as tradable_of};
+ghost use Rattle.rule.specs.Sound.{position_limit, all_terms_fit, at_most, marks_fit, tradable as tradable_of};
 ghost use Rattle.rule.specs.Layout.{book_length, plus, minus, cube, sound_book, positions_at};
 ghost use Rattle.ranges.specs.Ranges.{all_pass};
 ghost use Rattle.book.specs.Sized.{Sized, book_terms, is_within, while_runs, basket_fits, positions_fit, tally_fits, codes_fit, given_fits, state_fits};
 
 use crate::limits;
 
-// "Positive is owed to the clearing house, negative is due from it": the two sides of a signed cell.
+// "Positive is owed to the clearing house, negative is due from it": the two sides of a signed cell. Two functions of a line each: one for
+// both would ask which side, and be no plainer.
 pub fn owed_of(cell: u64) -> u64
     ensures { result ≡ plus cell }
 {
@@ -84,7 +85,13 @@ impl<'a> Book<'a> {
     fn codes_fit(&self) -> bool
         ensures { result ≡ codes_fit self.now.cells.now }
     {
-        isin::codes_right(&self.cells[layout::CODES..], self.issues)
+        isin::codes_right(&self.cells[layout::CODES..layout::CODES + layout::CODE * self.issues])
+    }
+
+    fn terms_fit(&self) -> bool
+        ensures { result ≡ all_terms_fit self.now.issues (book_terms self.now.cells.now) }
+    {
+        ranges::terms_fit(&self.cells[layout::TERMS..layout::TERMS + layout::TERM * self.issues])
     }
 
     // Rows of lots, one for each participant.
@@ -93,14 +100,12 @@ impl<'a> Book<'a> {
         requires small { bound ≤ 9223372036854775807 }
         ensures { result ≡ at_most bound self.now.participants self.now.issues (grid self.now.cells.now at 32 self.now.participants self.now.issues) }
     {
-        ranges::rows_at_most(
-            self.cells,
-            at,
-            layout::MOST_ISSUES,
-            self.participants,
-            self.issues,
-            bound,
-        )
+        let lots = ranges::Rows {
+            cells: &self.cells[at..at + layout::MOST_ISSUES * self.participants],
+            stride: layout::MOST_ISSUES,
+            m: self.issues,
+        };
+        lots.at_most(bound)
     }
 
     // Inlined, since the compiler then knows how few participants there are.
@@ -110,9 +115,7 @@ impl<'a> Book<'a> {
         ensures { result ≡ marks_fit self.now.participants (cube self.now.cells.now at self.now.participants) }
     {
         ranges::marks_fit(
-            self.cells,
-            at,
-            layout::SQUARE,
+            &self.cells[at..at + layout::SQUARE * layout::BASKETS],
             layout::MOST_PARTICIPANTS,
             self.participants,
         )
@@ -123,7 +126,7 @@ impl<'a> Book<'a> {
         ensures { result ≡ given_fits self.now.cells.now }
     {
         self.codes_fit()
-            && ranges::terms_fit(self.cells, layout::TERMS, self.issues)
+            && self.terms_fit()
             && self.lots_at_most(layout::RECEIPTS, limits::RECEIPT)
             && self.marks_fit(layout::PAIRS)
     }
@@ -156,10 +159,10 @@ impl<'a> Book<'a> {
     fn tally_fits(&self, limit: Limit) -> bool
         ensures { result ≡ tally_fits self.now.cells.now limit.most }
     {
-        (0..self.participants).all(|p| {
-            let at = layout::TALLY + layout::MOST_ISSUES * p;
-            limit.holds_for(&self.cells[at..at + self.issues])
-        })
+        let end = layout::TALLY + layout::MOST_ISSUES * self.participants;
+        self.cells[layout::TALLY..end]
+            .chunks_exact(layout::MOST_ISSUES)
+            .all(|row| limit.holds_for(&row[..self.issues]))
     }
 
     // What the other calls change.
@@ -184,6 +187,8 @@ impl<'a> Book<'a> {
     }
 }
 
+// Trade, notice, close and run each ask one function of theirs for a sound book, by a fact. A type for it would be no plainer: the call then
+// writes the cells that it was lent, and a struct of them would have to keep the fact through each write.
 pub fn sound(book: &[u64]) -> bool
     ensures { result ≡ sound_book book.now }
 {

@@ -9,7 +9,7 @@ use native.Mathlib.Omega.{arith}
 use native.Mathlib.Decide.{dec_lt, ℕ_discrete}
 use lib.Dec.{leb, ltb, eqb}
 use lib.ListN.{length, get_or, take, drop}
-use lib.Seq.{take-suc, get_or-take, drop-drop, ext_get_or, length-take-le}
+use lib.Seq.{take-suc, drop-drop, ext_get_or}
 use borrow.Author.Tests.{leb-true, le-leb, lt-leb, lt-ltb, eq-eqb, ne_eqb}
 use Rattle.std.proofs.lemmas.Bool.Decides.{nat_tests}
 use Rattle.std.proofs.lemmas.Cmp.{same_from_slice_cmp}
@@ -223,7 +223,7 @@ module _ (c : List ℕ) where
     pub japan-second : {p : ℕ} → v ≡ true → p ≡ 80 → eqb (get_or c 1 0) p ≡ of_japan c
     japan-second {p} f k = row-go _ _ _ (sym (rw e at q) ∙ f) (ap (eqb (get_or c 1 0)) k) ∙ sym (two l)
 
--- the codes of the day stand one after the other
+-- the codes stand one after the other
 chunk : (n k : ℕ) (xs : List ℕ) (p : ℕ) → p < k → get_or (first_chunks n k xs) p [] ≡ take n (drop (n * p) xs)
 chunk n zero xs p l = absurd (omega arith)
 chunk n (suc k) xs zero l = let e : n * 0 ≡ 0 = omega arith in rw e
@@ -235,16 +235,15 @@ length-chunks : (n k : ℕ) (xs : List ℕ) → length (first_chunks n k xs) ≡
 length-chunks n zero xs = refl
 length-chunks n (suc k) xs = ap (λ (j : ℕ). suc j) (length-chunks n k (drop n xs))
 
-chunks-are : (cells : List ℕ) (n k : ℕ) → n ≤ k → take n (first_chunks 12 k cells) ≡ grid cells 0 12 n 12
-chunks-are cells n k l =
-    let e = length-table n (λ p. block cells (0 + 12 * p) 12) in
-    let m : length (take n (first_chunks 12 k cells)) ≡ n = length-take-le n (first_chunks 12 k cells) (omega (arith, length-chunks 12 k cells)) in
-    ext_get_or [] (take n (first_chunks 12 k cells)) (grid cells 0 12 n 12) (m ∙ sym e)
-    (λ p h. let o : p < n = omega arith in get_or-take n (first_chunks 12 k cells) p [] o ∙ chunk 12 k cells p (omega arith) ∙ sym (row_at cells n 12 p o))
+chunks-are : (cells : List ℕ) (k : ℕ) → first_chunks 12 k cells ≡ grid cells 0 12 k 12
+chunks-are cells k =
+    let e = length-table k (λ p. block cells (0 + 12 * p) 12) in
+    ext_get_or [] (first_chunks 12 k cells) (grid cells 0 12 k 12) (length-chunks 12 k cells ∙ sym e)
+    (λ p h. let o : p < k = omega (arith, length-chunks 12 k cells) in chunk 12 k cells p o ∙ sym (row_at cells k 12 p o))
 
-pub codes-are : (cells : List ℕ) (n : ℕ) {cs : List (List ℕ)} → 12 * n ≤ length cells → cs ≡ first_chunks 12 (length cells / 12) cells
-    → codes_right (take n cs) ≡ codes_right (grid cells 0 12 n 12)
-codes-are cells n h e = ap codes_right (ap (take n) e ∙ chunks-are cells n (length cells / 12) (omega arith))
+pub codes-are : (cells : List ℕ) {cs : List (List ℕ)} → cs ≡ first_chunks 12 (length cells / 12) cells
+    → codes_right cs ≡ codes_right (grid cells 0 12 (length cells / 12) 12)
+codes-are cells e = ap codes_right (e ∙ chunks-are cells (length cells / 12))
 
 -- codes that were tested by the library's methods
 module _ (xs : List (List ℕ)) where

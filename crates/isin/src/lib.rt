@@ -1,10 +1,10 @@
 // Codes of issues: ISO 6166 and its check digit, the codes of Japan, and their order. A code is 12 cells.
 #![tactic(auto)]
 
-ghost use Rattle.std.specs.Prelude.{◌≡◌, ◌+◌, ◌*◌, ◌/◌, ◌%◌, ◌≤◌, max};
+ghost use Rattle.std.specs.Prelude.{◌≡◌, ◌+◌, ◌*◌, ◌/◌, ◌%◌, ◌≤◌, length, max};
 ghost use Rattle.lists.specs.Parts.{grid};
 ghost use Rattle.rule.specs.Isin.{is_isin, is_code, before, codes_right};
-ghost use Rattle.isin.specs.Code.{of_japan, Holds};
+ghost use Rattle.isin.specs.Code.{of_japan};
 ghost use Rattle.isin.specs.Summing.{Within, with_digit, with_capital};
 
 // A code begins with the capitals of its country. Its check digit is the last character.
@@ -99,12 +99,10 @@ pub fn stands_before(a: &[u64], b: &[u64]) -> bool
     a.cmp(b).is_lt()
 }
 
-// Is each of the codes one, and do they rise strictly? The table of a book has room for more codes than the day has issues, so
-// their number stands beside the cells.
-pub fn codes_right(cells: &[u64], issues: usize) -> bool
-    requires { Holds cells.now issues }
-    ensures { result ≡ codes_right (grid cells.now 0 12 issues 12) }
+// Is each of the codes one, and do they rise strictly? They stand one after the other.
+pub fn codes_right(cells: &[u64]) -> bool
+    ensures { result ≡ codes_right (grid cells.now 0 12 (length cells.now / 12) 12) }
 {
-    let codes = &cells.as_chunks::<12>().0[..issues];
+    let (codes, _) = cells.as_chunks::<12>();
     codes.iter().all(|code| is_code(code)) && codes.is_sorted_by(|a, b| stands_before(a, b))
 }

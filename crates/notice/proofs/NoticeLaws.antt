@@ -5,9 +5,9 @@ use native.Mathlib.Decide.{ℕ_discrete}
 use native.Mathlib.Numerals.{add-one}
 use native.Mathlib.Omega.{arith}
 use mathlib.Core.Bool.{Bool, true, false, not, and-true}
-use mathlib.Core.List.{List}
-use lib.ListN.{length, get_or, set, take, drop, replicate, length-set, length-replicate, get_or-replicate}
-use lib.Seq.{get_or-set_same, get_or-set_other}
+use mathlib.Core.List.{List, ◌∷◌}
+use lib.ListN.{length, get_or, set, take, drop, replicate, length-set, length-drop, length-replicate, get_or-replicate}
+use lib.Seq.{get_or-set_same, get_or-set_other, get_or-drop, drop-drop}
 use borrow.Rule.Slice.PartMut.{put_mid}
 use lib.Dec.{ltb, leb, eqb}
 use borrow.Author.Tests.{ltb-true, leb-true, eq-eqb, ne_eqb, not-true, not-false}
@@ -15,7 +15,7 @@ use Rattle.lists.specs.Tests.{all_below}
 use Rattle.lists.specs.Tables.{up_to, zeros}
 use Rattle.lists.specs.Folds.{foldl}
 use Rattle.lists.specs.Parts.{over}
-use Rattle.lists.proofs.TestLaws.{all_more, all-stop, all-at, stop_is, through-is, all-ext, flag-no, flag-yes}
+use Rattle.lists.proofs.TestLaws.{all_more, all-stop, all-at, stop_is, through-is}
 use Rattle.lists.proofs.FoldLaws.{foldl-up_to}
 use Rattle.lists.proofs.PartLaws.{part_length, part-back}
 use Rattle.rule.specs.Day.{notice_row, noticed}
@@ -75,6 +75,18 @@ module _ (named : List ℕ) where
   unfolding distinct
   marked_all {j = j} l h = through-is _ (length named) j h.apart l h.here
 
+-- ---- the next of a list
+
+module _ (xs : List ℕ) (j x : ℕ) (ys : List ℕ) (e : x ∷ ys ≡ drop j xs) where
+  pub next-long : j < length xs
+  next-long = omega (arith, ap length e, length-drop j xs)
+
+  pub next-is : x ≡ get_or xs j 0
+  next-is = let z : j + 0 ≡ j = omega arith in ap (λ (l : List ℕ). get_or l 0 0) e ∙ get_or-drop j xs 0 0 ∙ ap (λ (i : ℕ). get_or xs i 0) z
+
+  pub next-rest : ys ≡ drop (j + 1) xs
+  next-rest = ap (drop 1) e ∙ drop-drop 1 j xs
+
 -- ---- the entries below j are in the row
 
 abbrev entry : List ℕ → List ℕ → List ℕ → ℕ → List ℕ
@@ -113,17 +125,6 @@ row_back b p m issues lots c e fit h =
     ∙ ap₂ (λ (r : List ℕ) (n : ℕ). over b (notices_at + 32 * p) r) (k ∙ ap (λ (n : ℕ). notice_row n issues lots) e) e
 
 -- ---- an accepted notice, in a sound book
-
--- the answer of a scan of the cells from 0 on
-module _ (l : List ℕ) (bound : ℕ) (r : Bool) (e : r ≡ all_below (length l) (λ i. leb (get_or l (0 + i) 0) bound)) where
-  from_zero : r ≡ all_below (length l) (λ i. leb (get_or l i 0) bound)
-  from_zero = e ∙ all-ext _ _ (length l) (λ i h. ap (λ (k : ℕ). leb (get_or l k 0) bound) (omega arith))
-
-  pub few-no : not r ≡ true → all_below (length l) (λ i. leb (get_or l i 0) bound) ≡ false
-  few-no h = flag-no r _ from_zero h
-
-  pub few-yes : not r ≡ false → all_below (length l) (λ i. leb (get_or l i 0) bound) ≡ true
-  few-yes h = flag-yes r _ from_zero h
 
 module _ (b : List ℕ) (s : SoundBook b) (issues : List ℕ) (named : all_below (length issues) (λ j. ltb (get_or issues j 0) (get_or b 1 0)) ≡ true) where
   of_day : (j : ℕ) → j < length issues → get_or issues j 0 < get_or b 1 0

@@ -36,61 +36,66 @@ fn all_distinct(named: &[u64]) -> bool
     true
 }
 
-// The sender's row: every entry's lots at its issue, 0 elsewhere.
-fn write_row(row: &mut [u64], named: &[u64], lots: &[u64])
-    requires { Entries (length row.old) named.now lots.now }
-    ensures { row.new ≡ notice_row (length row.old) named.now lots.now }
-{
-    row.fill(0);
-    for (j, issue) in named.iter().enumerate() {
-        row[*issue as usize] = lots[j];
-    }
-}
-
-// "only that participant's row of the book is written": it starts in mid-book, and is lent to the writer.
-fn write_notice(book: &mut [u64], participant: u64, named: &[u64], lots: &[u64])
-    requires { Written book.old participant named.now lots.now }
-    ensures { book.new ≡ notice_written book.old participant named.now lots.now }
-{
-    let issues = book[layout::ISSUES] as usize;
-    let at = layout::NOTICES + layout::MOST_ISSUES * (participant as usize);
-    let end = at + issues;
-    write_row(&mut book[at..end], named, lots);
-}
-
-// In a sound book.
-fn notice_sound(
-    book: &mut [u64],
+// A notice as it is given: an entry is an issue and its lots.
+#[derive(Drop)]
+struct Notified<'a> {
     participant: u64,
-    named: &[u64],
-    lots: &[u64],
-) -> Result<(), Refusal>
-    requires { SoundBook book.old }
-    ensures { (told result, book.new) ≡ notice_sound book.old participant named.now lots.now }
-{
-    if book[layout::RUNS] >= 3 {
-        return Err(Refusal::ThreeRunsDone);
+    named: &'a [u64],
+    lots: &'a [u64],
+}
+
+impl<'a> Notified<'a> {
+    // The sender's row: every entry's lots at its issue, 0 elsewhere.
+    fn write_row(&self, row: &mut [u64])
+        requires { Entries (length row.old) self.now.named.now self.now.lots.now }
+        ensures { row.new ≡ notice_row (length row.old) self.now.named.now self.now.lots.now }
+    {
+        row.fill(0);
+        for (issue, lots) in self.named.iter().zip(self.lots) {
+            row[*issue as usize] = *lots;
+        }
     }
-    if participant >= book[layout::PARTICIPANTS] {
-        return Err(Refusal::NotOfDay);
+
+    // "only that participant's row of the book is written": it starts in mid-book, and is lent to the writer.
+    fn write(&self, book: &mut [u64])
+        requires { Written book.old self.now.participant self.now.named.now self.now.lots.now }
+        ensures { book.new ≡ notice_written book.old self.now.participant self.now.named.now self.now.lots.now }
+    {
+        let issues = book[layout::ISSUES] as usize;
+        let at = layout::NOTICES + layout::MOST_ISSUES * (self.participant as usize);
+        let end = at + issues;
+        self.write_row(&mut book[at..end]);
     }
-    if named.is_empty() {
-        return Err(Refusal::WrongEntry);
+
+    // In a sound book.
+    fn enter(&self, book: &mut [u64]) -> Result<(), Refusal>
+        requires { SoundBook book.old }
+        ensures { (told result, book.new) ≡ notice_sound book.old self.now.participant self.now.named.now self.now.lots.now }
+    {
+        if book[layout::RUNS] >= 3 {
+            return Err(Refusal::ThreeRunsDone);
+        }
+        if self.participant >= book[layout::PARTICIPANTS] {
+            return Err(Refusal::NotOfDay);
+        }
+        if self.named.is_empty() {
+            return Err(Refusal::WrongEntry);
+        }
+        if self.named.len() != self.lots.len() {
+            return Err(Refusal::WrongEntry);
+        }
+        if !all_of_day(self.named, book[layout::ISSUES]) {
+            return Err(Refusal::WrongEntry);
+        }
+        if !all_distinct(self.named) {
+            return Err(Refusal::WrongEntry);
+        }
+        if !ranges::row_at_most(self.lots, limits::NOTICE) {
+            return Err(Refusal::TooManyLots);
+        }
+        self.write(book);
+        Ok(())
     }
-    if named.len() != lots.len() {
-        return Err(Refusal::WrongEntry);
-    }
-    if !all_of_day(named, book[layout::ISSUES]) {
-        return Err(Refusal::WrongEntry);
-    }
-    if !all_distinct(named) {
-        return Err(Refusal::WrongEntry);
-    }
-    if !ranges::row_at_most(lots, 0, lots.len(), limits::NOTICE) {
-        return Err(Refusal::TooManyLots);
-    }
-    write_notice(book, participant, named, lots);
-    Ok(())
 }
 
 pub fn notice(
@@ -104,5 +109,10 @@ pub fn notice(
     if !sound::sound(book) {
         return Err(Refusal::UnsoundBook);
     }
-    notice_sound(book, participant, issues, lots)
+    let notified = Notified {
+        participant,
+        named: issues,
+        lots,
+    };
+    notified.enter(book)
 }

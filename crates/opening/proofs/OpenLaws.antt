@@ -1,21 +1,21 @@
 -- Laws that the proofs of an opening cite. Assumes nothing.
 use mathlib.Core.Path.{◌≡◌, refl, sym, ap, ap₂, ◌∙◌}
-use mathlib.Core.Logic.{inr, ◌≢◌}
-use Prim.Native.Nat.{ℕ, zero, suc, ◌+◌, ◌*◌, ◌≤◌, ◌<◌}
-use native.Mathlib.Nat.{mul-le-mul, mul-le-mul_left, mul-suc, mul_comm, le_refl}
-use native.Mathlib.Decide.{ℕ_discrete, dec_lt}
+use mathlib.Core.Logic.{◌≢◌}
+use Prim.Native.Nat.{ℕ, zero, suc, ◌+◌, ◌-◌, ◌*◌, ◌/◌, ◌≤◌, ◌<◌}
+use native.Mathlib.Nat.{mul-le-mul, mul-le-mul_left, mul-suc, mul_comm, le_refl, mul-div_cancel}
 use native.Mathlib.Numerals.{add-one}
 use native.Mathlib.Omega.{arith}
-use mathlib.Core.Bool.{true, false}
+use mathlib.Core.Bool.{Bool, true, false}
 use borrow.Author.Rules.{rules}
+use borrow.Rule.Slice.PartMut.{put_mid}
 use mathlib.Core.List.{List, [], ◌++◌, map, append_assoc, append-nil}
-use lib.ListN.{length, get_or, set, take, length-set}
-use lib.Seq.{ext_get_or, take_all, length-take-le, get_or-take, get_or-set_same, get_or-set_other}
+use lib.ListN.{length, set, length-set}
+use lib.Seq.{take_all}
 use Rattle.lists.specs.Tables.{from, table, zeros, row}
 use Rattle.lists.specs.Folds.{joined}
-use Rattle.lists.specs.Parts.{block, grid, over, rows_at, written}
+use Rattle.lists.specs.Parts.{grid, rows_at, written}
 use Rattle.lists.proofs.TableLaws.{length-zeros, get_or-table}
-use Rattle.lists.proofs.PartLaws.{block-get, length-block, length_over, over-in, over-out, grid-agree, Shape, grid-shape, table-agree, written-append}
+use Rattle.lists.proofs.PartLaws.{part-back, length_over, Shape, grid-shape, table-agree, written-append}
 use Rattle.rule.specs.Isin.{codes_right}
 use Rattle.rule.specs.Sound.{sizes_fit, all_terms_fit, at_most, receipts_fit, marks_fit}
 use Rattle.rule.specs.Day.{terms_of, given_of, opened}
@@ -26,74 +26,21 @@ use Rattle.rule.proofs.SoundLaws.{Sizes, sizes-of}
 use Rattle.rule.proofs.AnswerLaws.{answers}
 use Rattle.rule.proofs.OpenLaws.{Openable, open-stored}
 use Rattle.rows.specs.Rows.{Copies}
-use Rattle.opening.specs.Opened.{Marks, Tables, Lengths, marks_written, open_written, open_lengths}
-use Rattle.rows.proofs.CopyLaws.{copied-length}
+use Rattle.rows.proofs.CopyLaws.{copied-length, copied-joined}
+use Rattle.opening.specs.Opened.{Lengths, marks_written, open_written, open_lengths}
 
--- ---- bytes that become cells, one after the other
+-- ---- an array whose rows stand one after the other, copied whole
 
-over-start : (cells₀ codes : List ℕ) → length codes ≤ length cells₀ → (j : ℕ) → j < length codes → get_or (over cells₀ 0 codes) j 0 ≡ get_or codes j 0
-over-start cells₀ codes fit j l =
-    let e : 0 + j ≡ j = omega arith in
-    ap (λ (i : ℕ). get_or (over cells₀ 0 codes) i 0) (sym e) ∙ over-in cells₀ codes 0 (omega arith) j l
+pub copied-whole : (b : List ℕ) (at w m : ℕ) (source : List ℕ) → at + length source ≤ length b → length source ≡ w * m
+    → put_mid at (at + length source - at) b source ≡ written b (rows_at at w (grid source 0 w m w))
+copied-whole b at w m source h e =
+    let k : length source ≡ m * w = omega (arith, e, mul_comm w m) in
+    let r : Copies b at w m w source 0 w = record { wide = le_refl w; room = omega (arith, h, e); source_wide = le_refl w; rows = omega (arith, e) } in
+    let z : at + length source - at ≡ at + m * w - at = omega (arith, k) in
+    ap (λ (n : ℕ). put_mid at n b source) z ∙ copied-joined b at w m w source 0 w r refl refl source (sym (take_all (0 + m * w - 0) source (omega (arith, k))))
 
-pub record Widened (codes cells₀ cells : List ℕ) (i : ℕ) : Type 0 where
-  pub here : i ≤ length codes
-  pub size : length cells ≡ length cells₀
-  pub bytes : cells ≡ over cells₀ 0 (take i codes)
-
-module _ (codes cells₀ : List ℕ) (fit : length codes ≤ length cells₀) where
-  pub widened_none : Widened codes cells₀ cells₀ 0
-  widened_none = record { here = omega arith; size = refl; bytes = refl }
-
-  part : (i : ℕ) → i ≤ length codes → length (take i codes) ≡ i
-  part i h = length-take-le i codes h
-
-  next : (i : ℕ) → i < length codes → set (over cells₀ 0 (take i codes)) i (get_or codes i 0) ≡ over cells₀ 0 (take (i + 1) codes)
-  next i h =
-      let old : List ℕ = over cells₀ 0 (take i codes) in
-      let new : List ℕ = over cells₀ 0 (take (i + 1) codes) in
-      let lo : length old ≡ length cells₀ = length_over cells₀ (take i codes) 0 (omega (arith, part i (omega arith))) in
-      let ln : length new ≡ length cells₀ = length_over cells₀ (take (i + 1) codes) 0 (omega (arith, part (i + 1) (omega arith))) in
-      ext_get_or 0 (set old i (get_or codes i 0)) new (length-set old i (get_or codes i 0) ∙ lo ∙ sym ln) (λ j l. at j (ℕ_discrete j i) (dec_lt j i))
-    where
-      inside : (k j : ℕ) → k ≤ length codes → j < k → get_or (over cells₀ 0 (take k codes)) j 0 ≡ get_or codes j 0
-      inside k j a b = over-start cells₀ (take k codes) (omega (arith, part k a)) j (omega (arith, part k a)) ∙ get_or-take k codes j 0 b
-
-      outside : (k j : ℕ) → k ≤ length codes → k ≤ j → get_or (over cells₀ 0 (take k codes)) j 0 ≡ get_or cells₀ j 0
-      outside k j a b = over-out cells₀ (take k codes) 0 (omega (arith, part k a)) j (inr (omega (arith, part k a)))
-
-      at : (j : ℕ) → Dec (j ≡ i) → Dec (j < i) → get_or (set (over cells₀ 0 (take i codes)) i (get_or codes i 0)) j 0 ≡ get_or (over cells₀ 0 (take (i + 1) codes)) j 0
-      at j (yes e) d =
-          rw e (get_or-set_same (over cells₀ 0 (take i codes)) i (get_or codes i 0) 0 (omega (arith, length_over cells₀ (take i codes) 0 (omega (arith, part i (omega arith)))))
-          ∙ sym (inside (i + 1) i (omega arith) (omega arith)))
-      at j (no ne) (yes l) = get_or-set_other (over cells₀ 0 (take i codes)) i j (get_or codes i 0) 0 ne ∙ inside i j (omega arith) l ∙ sym (inside (i + 1) j (omega arith) (omega arith))
-      at j (no ne) (no l) = get_or-set_other (over cells₀ 0 (take i codes)) i j (get_or codes i 0) 0 ne ∙ outside i j (omega arith) (omega arith) ∙ sym (outside (i + 1) j (omega arith) (omega arith))
-
-  pub widened_more : {cells : List ℕ} {i : ℕ} (v : ℕ) → i < length codes → v ≡ get_or codes i 0 → Widened codes cells₀ cells i → Widened codes cells₀ (set cells i v) (i + 1)
-  widened_more {cells} {i} v l e h = record {
-    here = omega arith;
-    size = length-set cells i v ∙ h.size;
-    bytes = ap₂ (λ (c : List ℕ) (x : ℕ). set c i x) h.bytes e ∙ next i l;
-  }
-
-  pub widened-all : {cells : List ℕ} {i : ℕ} → length codes ≤ i → Widened codes cells₀ cells i → cells ≡ over cells₀ 0 codes
-  widened-all {i = i} l h = h.bytes ∙ ap (over cells₀ 0) (take_all i codes l)
-
--- the codes are read from the cells
-pub codes_same : (m : ℕ) (codes cells₀ cells : List ℕ) → length codes ≡ 12 * m → length codes ≤ length cells₀ → cells ≡ over cells₀ 0 codes
-    → grid cells 0 12 m 12 ≡ grid codes 0 12 m 12
-codes_same m codes cells₀ cells size fit e =
-    let x : List ℕ = over cells₀ 0 codes in
-    let long : length x ≡ length cells₀ = length_over cells₀ codes 0 (omega arith) in
-    ap (λ (c : List ℕ). grid c 0 12 m 12) e
-    ∙ grid-agree x codes 0 12 m 12
-    (λ p l.
-    let a : length (block x (0 + 12 * p) 12) ≡ 12 = length-block x (0 + 12 * p) 12 (omega arith) in
-    let b : length (block codes (0 + 12 * p) 12) ≡ 12 = length-block codes (0 + 12 * p) 12 (omega arith) in
-    ext_get_or 0 (block x (0 + 12 * p) 12) (block codes (0 + 12 * p) 12) (a ∙ sym b)
-    (λ i k.
-    let k' : i < 12 = omega arith in
-    block-get x (0 + 12 * p) 12 i k' ∙ over-start cells₀ codes fit (0 + 12 * p + i) (omega arith) ∙ sym (block-get codes (0 + 12 * p) 12 i k')))
+pub copied-size : (b : List ℕ) (at : ℕ) (source : List ℕ) → at + length source ≤ length b → length (put_mid at (at + length source - at) b source) ≡ length b
+copied-size b at source h = ap length (part-back b at (length source) source refl) ∙ length_over b source at h
 
 -- ---- the pair marks, basket by basket
 
@@ -112,6 +59,15 @@ squares-more n pairs k =
     let z : 0 + k ≡ k = omega arith in
     joined-more (squares n pairs) 0 k
     ∙ ap (λ (l : List (ℕ × List ℕ)). joined (table k (squares n pairs)) ++ l) (append-nil (squares n pairs (0 + k)) ∙ ap (squares n pairs) z)
+
+-- marks of n participants, for a book of its length
+pub record Marks (book : List ℕ) (n : ℕ) (pairs : List ℕ) : Type 0 where
+  pub size : length book ≡ book_length
+  pub few : n ≤ 12
+  pub marks : length pairs ≡ 7 * (n * n)
+
+pub marks_fit_book : {n m : ℕ} {codes terms receipts pairs b : List ℕ} → Lengths n m codes terms receipts pairs → length b ≡ book_length → Marks b n pairs
+marks_fit_book l e = record { size = e; few = l.few; marks = l.pairs_size }
 
 -- the marks of the baskets below k are copied
 pub record Marked (b : List ℕ) (n : ℕ) (pairs c : List ℕ) (k : ℕ) : Type 0 where
@@ -164,53 +120,55 @@ module _ (b : List ℕ) (n : ℕ) (pairs : List ℕ) (m : Marks b n pairs) where
 
 -- ---- the whole book, table after table
 
-abbrev sized : List ℕ → ℕ → ℕ → List ℕ
+abbrev pub sized : List ℕ → ℕ → ℕ → List ℕ
 sized x n m = set (set x 0 n) 1 m
 
-module _ (n m : ℕ) (codes terms receipts pairs b : List ℕ) (t : Tables n m codes terms receipts pairs b) (x₀ : List ℕ) (e₀ : x₀ ≡ zeros (length b)) where
+module _ (n m : ℕ) (codes terms receipts pairs b : List ℕ) (t : Lengths n m codes terms receipts pairs) (size : length b ≡ book_length) (x₀ : List ℕ) (e₀ : x₀ ≡ zeros (length b)) where
   pub length-cleared : length x₀ ≡ book_length
-  length-cleared = ap length e₀ ∙ length-zeros (length b) ∙ t.marks.size
+  length-cleared = ap length e₀ ∙ length-zeros (length b) ∙ size
 
-  length-sized : length (sized x₀ n m) ≡ book_length
+  pub length-sized : length (sized x₀ n m) ≡ book_length
   length-sized = length-set (set x₀ 0 n) 1 m ∙ length-set x₀ 0 n ∙ length-cleared
 
-  pub codes_room : Copies (sized x₀ n m) codes_at 12 m 12 codes 0 12
-  codes_room = record { wide = omega arith; source_wide = omega arith; room = omega (arith, length-sized, t.most); rows = omega (arith, t.codes_room) }
+  pub codes_room : codes_at + length codes ≤ length (sized x₀ n m)
+  codes_room = omega (arith, length-sized, t.most, t.codes_size)
 
-  module _ (x₁ : List ℕ) (e₁ : x₁ ≡ written (sized x₀ n m) (rows_at codes_at 12 (grid codes 0 12 m 12))) where
+  module _ (x₁ : List ℕ) (e₁ : x₁ ≡ put_mid codes_at (codes_at + length codes - codes_at) (sized x₀ n m) codes) where
+    is₁ : x₁ ≡ written (sized x₀ n m) (rows_at codes_at 12 (grid codes 0 12 m 12))
+    is₁ = e₁ ∙ copied-whole (sized x₀ n m) codes_at 12 m codes codes_room t.codes_size
+
     length₁ : length x₁ ≡ book_length
-    length₁ = ap length e₁ ∙ copied-length (sized x₀ n m) codes_at 12 m 12 codes 0 12 codes_room ∙ length-sized
+    length₁ = ap length e₁ ∙ copied-size (sized x₀ n m) codes_at codes codes_room ∙ length-sized
 
-    pub terms-room : Copies x₁ terms_at 6 m 6 terms 0 6
-    terms-room = record { wide = omega arith; source_wide = omega arith; room = omega (arith, length₁, t.most); rows = omega (arith, t.terms_size) }
+    pub terms-room : terms_at + length terms ≤ length x₁
+    terms-room = omega (arith, length₁, t.most, t.terms_size)
 
-    module _ (x₂ : List ℕ) (e₂ : x₂ ≡ written x₁ (rows_at terms_at 6 (grid terms 0 6 m 6))) where
+    module _ (x₂ : List ℕ) (e₂ : x₂ ≡ put_mid terms_at (terms_at + length terms - terms_at) x₁ terms) where
+      is₂ : x₂ ≡ written x₁ (rows_at terms_at 6 (grid terms 0 6 m 6))
+      is₂ = e₂ ∙ copied-whole x₁ terms_at 6 m terms terms-room t.terms_size
+
       length₂ : length x₂ ≡ book_length
-      length₂ = ap length e₂ ∙ copied-length x₁ terms_at 6 m 6 terms 0 6 terms-room ∙ length₁
+      length₂ = ap length e₂ ∙ copied-size x₁ terms_at terms terms-room ∙ length₁
 
       pub receipts-room : Copies x₂ receipts_at 32 n m receipts 0 m
-      receipts-room = record { wide = t.most; source_wide = le_refl m; room = omega (arith, length₂, t.marks.few); rows = omega (arith, t.receipts_size, mul_comm m n) }
+      receipts-room = record { wide = t.most; source_wide = le_refl m; room = omega (arith, length₂, t.few); rows = omega (arith, t.receipts_size, mul_comm m n) }
 
       module _ (x₃ : List ℕ) (e₃ : x₃ ≡ written x₂ (rows_at receipts_at 32 (grid receipts 0 m n m))) where
-        pub marks-room : Marks x₃ n pairs
-        marks-room = record {
-          size = ap length e₃ ∙ copied-length x₂ receipts_at 32 n m receipts 0 m receipts-room ∙ length₂;
-          few = t.marks.few;
-          marks = t.marks.marks;
-        }
+        pub length₃ : length x₃ ≡ book_length
+        length₃ = ap length e₃ ∙ copied-length x₂ receipts_at 32 n m receipts 0 m receipts-room ∙ length₂
 
         module _ (x₄ : List ℕ) (e₄ : x₄ ≡ marks_written x₃ n pairs) where
           pub length-all : length x₄ ≡ length b
-          length-all = ap length e₄ ∙ length-marks x₃ n pairs marks-room ∙ marks-room.size ∙ sym t.marks.size
+          length-all = ap length e₄ ∙ length-marks x₃ n pairs (record { size = length₃; few = t.few; marks = t.pairs_size }) ∙ length₃ ∙ sym size
 
           pub all-written : x₄ ≡ open_written n m codes terms receipts pairs
           unfolding open_written
           all-written =
               e₄ ∙ ap (λ (x : List ℕ). marks_written x n pairs)
               (e₃ ∙ ap (λ (x : List ℕ). written x (rows_at receipts_at 32 (grid receipts 0 m n m)))
-              (e₂ ∙ ap (λ (x : List ℕ). written x (rows_at terms_at 6 (grid terms 0 6 m 6)))
-              (e₁ ∙ ap (λ (x : List ℕ). written (sized x n m) (rows_at codes_at 12 (grid codes 0 12 m 12)))
-              (e₀ ∙ ap zeros t.marks.size))))
+              (is₂ ∙ ap (λ (x : List ℕ). written x (rows_at terms_at 6 (grid terms 0 6 m 6)))
+              (is₁ ∙ ap (λ (x : List ℕ). written (sized x n m) (rows_at codes_at 12 (grid codes 0 12 m 12)))
+              (e₀ ∙ ap zeros size))))
 
 -- ---- what is written is the opened day
 
@@ -220,32 +178,38 @@ written-four a b c d x =
     ∙ written-append c (d ++ []) (written (written x a) b) ∙ ap (written (written (written (written x a) b) c)) (append-nil d))
 
 module _ (n m : ℕ) (codes terms receipts pairs : List ℕ) where
-  -- the marks as the day has them, and as they are copied
-  pub marks-same : table 7 (λ k. grid pairs (0 + n * n * k) n n n) ≡ (given_of n m codes terms receipts pairs).pairs
-  unfolding given_of
-  marks-same = table-agree 7 (λ k. grid pairs (0 + n * n * k) n n n) (λ k. grid pairs (n * n * k) n n n) (λ k l.
-      let e : 0 + n * n * k ≡ n * n * k = omega arith in ap (λ (i : ℕ). grid pairs i n n n) e)
-
   cube-same : cube_rows pairs_at (given_of n m codes terms receipts pairs).pairs ≡ joined (table 7 (squares n pairs))
   unfolding given_of
   cube-same =
       ap joined (table-agree 7 (λ k. rows_at (pairs_at + 144 * k) 12 (row (table 7 (λ k. grid pairs (n * n * k) n n n)) k)) (squares n pairs)
       (λ k l. ap (rows_at (pairs_at + 144 * k) 12) (get_or-table 7 (λ k. grid pairs (n * n * k) n n n) k [] l)))
 
-  pub open-written : Openable n m codes terms receipts pairs → (cells : List ℕ) → grid cells 0 12 m 12 ≡ grid codes 0 12 m 12
-      → open_written n m cells terms receipts pairs ≡ stored (zeros book_length) (opened (given_of n m codes terms receipts pairs))
+  pub open-written : Openable n m codes terms receipts pairs → open_written n m codes terms receipts pairs ≡ stored (zeros book_length) (opened (given_of n m codes terms receipts pairs))
   unfolding open_written marks_written given_of
-  open-written h cells e =
+  open-written h =
       let x : List ℕ = sized (zeros book_length) n m in
       let g₁ : List (ℕ × List ℕ) = rows_at codes_at 12 (grid codes 0 12 m 12) in
       let g₂ : List (ℕ × List ℕ) = rows_at terms_at 6 (grid terms 0 6 m 6) in
       let g₃ : List (ℕ × List ℕ) = rows_at receipts_at 32 (grid receipts 0 m n m) in
       let g₄ : List (ℕ × List ℕ) = joined (table 7 (squares n pairs)) in
       let shape : Shape (grid terms 0 6 m 6) m 6 = grid-shape terms 0 6 m 6 (omega arith) (omega (arith, h.terms_size)) in
-      ap (λ (g : List (List ℕ)). written (written (written (written x (rows_at codes_at 12 g)) g₂) g₃) g₄) e
-      ∙ written-four g₁ g₂ g₃ g₄ x
+      written-four g₁ g₂ g₃ g₄ x
       ∙ ap₂ (λ (t : List (List ℕ)) (c : List (ℕ × List ℕ)). written x (g₁ ++ (rows_at terms_at 6 t ++ (g₃ ++ (c ++ []))))) (sym (terms-rows (grid terms 0 6 m 6) m shape)) (sym cube-same)
       ∙ sym (open-stored n m codes terms receipts pairs h)
+
+-- ---- arrays tested whole
+
+module _ {n m : ℕ} {codes terms receipts pairs : List ℕ} (l : Lengths n m codes terms receipts pairs) {r : Bool} where
+  pub codes-whole : r ≡ codes_right (grid codes 0 12 (length codes / 12) 12) → r ≡ codes_right (grid codes 0 12 m 12)
+  codes-whole e = let k : length codes / 12 ≡ m = omega (arith, l.codes_size) in e ∙ ap (λ (j : ℕ). codes_right (grid codes 0 12 j 12)) k
+
+  pub terms-whole : r ≡ all_terms_fit (length terms / 6) (map terms_of (grid terms 0 6 (length terms / 6) 6)) → r ≡ all_terms_fit m (map terms_of (grid terms 0 6 m 6))
+  terms-whole e = let k : length terms / 6 ≡ m = omega (arith, l.terms_size) in e ∙ ap (λ (j : ℕ). all_terms_fit j (map terms_of (grid terms 0 6 j 6))) k
+
+  pub receipts-whole : (bound : ℕ) → r ≡ at_most bound (length receipts / m) m (grid receipts 0 m (length receipts / m) m) → r ≡ at_most bound n m (grid receipts 0 m n m)
+  receipts-whole bound e =
+      let k : length receipts / m ≡ n = ap (λ (j : ℕ). j / m) l.receipts_size ∙ mul-div_cancel n l.some.1 in
+      e ∙ ap (λ (j : ℕ). at_most bound j m (grid receipts 0 m j m)) k
 
 -- ---- what each return of a call with the right lengths shows
 
@@ -265,39 +229,32 @@ module _ (n m : ℕ) (codes terms receipts pairs b : List ℕ) where
       wrong-receipt e = search (answers, rules) depth 12
 
       module _ (r : at_most 1000000000000 n m (grid receipts 0 m n m) ≡ true) where
-        pub wrong-pair : marks_fit n (table 7 (λ k. grid pairs (0 + n * n * k) n n n)) ≡ false → ◌≡◌ {A = Reply × List ℕ} (refused 4, b) (open_lengths n m codes terms receipts pairs b)
+        pub wrong-pair : marks_fit n (table 7 (λ k. grid pairs (n * n * k) n n n)) ≡ false → ◌≡◌ {A = Reply × List ℕ} (refused 4, b) (open_lengths n m codes terms receipts pairs b)
         unfolding open_lengths open_checks given_of receipts_fit
-        wrong-pair e =
-            let p : marks_fit n (given_of n m codes terms receipts pairs).pairs ≡ false = sym (ap (marks_fit n) (marks-same n m codes terms receipts pairs)) ∙ e in
-            fits p
-          where
-            fits : marks_fit n (given_of n m codes terms receipts pairs).pairs ≡ false → ◌≡◌ {A = Reply × List ℕ} (refused 4, b) (open_lengths n m codes terms receipts pairs b)
-            fits p = search (answers, rules) depth 12
+        wrong-pair e = search (answers, rules) depth 12
 
-        pub all_right : Lengths n m codes terms receipts pairs b → marks_fit n (table 7 (λ k. grid pairs (0 + n * n * k) n n n)) ≡ true
-            → (cells x : List ℕ) → grid cells 0 12 m 12 ≡ grid codes 0 12 m 12 → x ≡ open_written n m cells terms receipts pairs
+        pub all_right : Lengths n m codes terms receipts pairs → marks_fit n (table 7 (λ k. grid pairs (n * n * k) n n n)) ≡ true
+            → (x : List ℕ) → x ≡ open_written n m codes terms receipts pairs
             → ◌≡◌ {A = Reply × List ℕ} (accepted, x) (open_lengths n m codes terms receipts pairs b)
         unfolding open_lengths open_checks given_of receipts_fit
-        all_right l e cells x same w =
-            let p : marks_fit n (given_of n m codes terms receipts pairs).pairs ≡ true = sym (ap (marks_fit n) (marks-same n m codes terms receipts pairs)) ∙ e in
-            fits p (w ∙ open-written n m codes terms receipts pairs (openable p) cells same)
+        all_right l p x w = fits (w ∙ open-written n m codes terms receipts pairs openable)
           where
-            openable : marks_fit n (given_of n m codes terms receipts pairs).pairs ≡ true → Openable n m codes terms receipts pairs
-            openable p = record {
+            openable : Openable n m codes terms receipts pairs
+            openable = record {
               sizes = l.sizes;
               codes_size = l.codes_size;
               terms_size = l.terms_size;
               receipts_size = l.receipts_size;
-              pairs_size = l.marks.marks;
+              pairs_size = l.pairs_size;
               codes_right = c;
               terms_fit = t;
               receipts_fit = r;
               pairs_fit = p;
             }
 
-            fits : marks_fit n (given_of n m codes terms receipts pairs).pairs ≡ true → x ≡ stored (zeros book_length) (opened (given_of n m codes terms receipts pairs))
+            fits : x ≡ stored (zeros book_length) (opened (given_of n m codes terms receipts pairs))
                 → ◌≡◌ {A = Reply × List ℕ} (accepted, x) (open_lengths n m codes terms receipts pairs b)
-            fits p q = search (answers, rules) depth 14
+            fits q = search (answers, rules) depth 14
 
 -- ---- what each return of an opening shows
 
@@ -332,10 +289,10 @@ module _ (n m : ℕ) (codes terms receipts pairs b : List ℕ) where
             wrong-book e = search (answers, rules) depth 16
 
             module _ (k : length b ≡ book_length) where
-              pub lengths : Lengths n m codes terms receipts pairs b
+              pub lengths : Lengths n m codes terms receipts pairs
               lengths =
                   let z : Sizes n m = sizes-of n m s in
-                  record { sizes = s; most = z.most; codes_size = c; terms_size = t; receipts_size = r; marks = record { size = k; few = z.few; marks = p } }
+                  record { sizes = s; some = (omega (arith, z.two), omega (arith, z.one)); few = z.few; most = z.most; codes_size = c; terms_size = t; receipts_size = r; pairs_size = p }
 
               pub right-lengths : (x : Reply × List ℕ) → x ≡ open_lengths n m codes terms receipts pairs b → x ≡ open_of n m codes terms receipts pairs b
               unfolding open_of open_lengths open_checks book_fits

@@ -1,5 +1,5 @@
--- What opening asks of its arrays, what it writes, and what it answers once all lengths are right. Assumes nothing.
-use Rattle.std.specs.Prelude.{◌≡◌, true, ℕ, ◌+◌, ◌*◌, ◌≤◌, List, length, set, drop, eqb}
+-- What opening has found of its arrays, what it writes, and what it answers once all lengths are right. Assumes nothing.
+use Rattle.std.specs.Prelude.{◌≡◌, true, ℕ, ◌+◌, ◌*◌, ◌≤◌, ◌<◌, List, length, set, drop, eqb}
 use Rattle.lists.specs.Tests.{first}
 use Rattle.lists.specs.Tables.{table, zeros}
 use Rattle.lists.specs.Folds.{joined}
@@ -9,26 +9,9 @@ use Rattle.rule.specs.Sound.{sizes_fit}
 use Rattle.rule.specs.Calls.{Reply, accepted, answer, open_checks}
 use Rattle.rule.specs.Layout.{book_length, codes_at, terms_at, receipts_at, pairs_at, stored}
 
--- the cells have room for the codes
-pub record Wide (codes cells : List ℕ) : Type 0 where
-  pub room : length codes ≤ length cells
-
-pub record Marks (book : List ℕ) (n : ℕ) (pairs : List ℕ) : Type 0 where
-  pub size : length book ≡ book_length
-  pub few : n ≤ 12
-  pub marks : length pairs ≡ 7 * (n * n)
-
 -- basket k's marks go to a square of twelve rows of twelve
 unfoldable pub marks_written : List ℕ → ℕ → List ℕ → List ℕ
 marks_written b n pairs = written b (joined (table 7 (λ k. rows_at (pairs_at + 144 * k) 12 (grid pairs (n * n * k) n n n))))
-
--- the codes as cells, and the other arrays, of their right lengths
-pub record Tables (n m : ℕ) (codes terms receipts pairs book : List ℕ) : Type 0 where
-  pub most : m ≤ 32
-  pub codes_room : 12 * m ≤ length codes
-  pub terms_size : length terms ≡ 6 * m
-  pub receipts_size : length receipts ≡ n * m
-  pub marks : Marks book n pairs
 
 unfoldable pub open_written : ℕ → ℕ → List ℕ → List ℕ → List ℕ → List ℕ → List ℕ
 open_written n m codes terms receipts pairs =
@@ -38,14 +21,16 @@ open_written n m codes terms receipts pairs =
     (rows_at receipts_at 32 (grid receipts 0 m n m)))
     n pairs
 
--- what the first row of the check table has shown
-pub record Lengths (n m : ℕ) (codes terms receipts pairs book : List ℕ) : Type 0 where
+-- what the first row of the check table has shown of what is given
+pub record Lengths (n m : ℕ) (codes terms receipts pairs : List ℕ) : Type 0 where
   pub sizes : sizes_fit n m ≡ true
+  pub some : 0 < n × 0 < m
+  pub few : n ≤ 12
   pub most : m ≤ 32
   pub codes_size : length codes ≡ 12 * m
   pub terms_size : length terms ≡ 6 * m
   pub receipts_size : length receipts ≡ n * m
-  pub marks : Marks book n pairs
+  pub pairs_size : length pairs ≡ 7 * (n * n)
 
 unfoldable pub open_lengths : ℕ → ℕ → List ℕ → List ℕ → List ℕ → List ℕ → List ℕ → Reply × List ℕ
 open_lengths n m codes terms receipts pairs b =

@@ -1,124 +1,110 @@
 // Opening a day: "sizes first (participants, issues), then two parallel arrays, codes and terms .. scheduled receipts .. and pair marks".
 #![tactic(auto)]
 
-ghost use Rattle.std.specs.Prelude.{◌≡◌, ◌*◌, ◌<◌};
-ghost use Rattle.lists.specs.Parts.{over};
-ghost use Rattle.rule.specs.Layout.{open_of};
+ghost use Rattle.std.specs.Prelude.{◌≡◌, ◌≤◌, length};
+ghost use Rattle.rule.specs.Layout.{book_length, open_of};
 ghost use Rattle.rule.specs.Answers.{told};
-ghost use Rattle.opening.specs.Opened.{Wide, Marks, Lengths, Tables, marks_written, open_written, open_lengths};
+ghost use Rattle.opening.specs.Opened.{Lengths, marks_written, open_written, open_lengths};
 
+use arrayvec::ArrayVec;
 use book::limits;
 use rule::Refusal;
 
-// The bytes of the codes as cells.
-fn widen(codes: &[u8], cells: &mut [u64])
-    requires { Wide codes.now cells.old }
-    ensures { cells.new ≡ over cells.old 0 codes.now }
+// The codes of at most 32 issues, a cell for each byte.
+type Codes = ArrayVec<u64, 384>;
+
+fn widen(codes: &[u8]) -> Codes
+    requires { length codes.now ≤ 384 }
+    ensures { result.items ≡ codes.now }
 {
-    for (i, byte) in codes.iter().enumerate() {
-        cells[i] = u64::from(*byte);
+    let mut cells = Codes::new();
+    for byte in codes {
+        cells.push(u64::from(*byte));
     }
+    cells
 }
 
-// Yesterday's pair marks, basket by basket.
-fn copy_marks(book: &mut [u64], participants: usize, pairs: &[u64])
-    requires { Marks book.old participants pairs.now }
-    ensures { book.new ≡ marks_written book.old participants pairs.now }
-{
-    let square = participants * participants;
-    for k in 0..layout::BASKETS {
+// What is given to an opening, in arrays of the lengths that the sizes ask for.
+#[derive(Drop)]
+struct Given<'a> {
+    participants: usize,
+    issues: usize,
+    codes: &'a [u64],
+    terms: &'a [u64],
+    receipts: &'a [u64],
+    pairs: &'a [u64],
+    ghost lengths: { Lengths participants issues codes.now terms.now receipts.now pairs.now },
+}
+
+impl<'a> Given<'a> {
+    // Yesterday's pair marks, basket by basket.
+    fn write_marks(&self, book: &mut [u64])
+        requires { length book.old ≡ book_length }
+        ensures { book.new ≡ marks_written book.old self.now.participants self.now.pairs.now }
+    {
+        let square = self.participants * self.participants;
+        for k in 0..layout::BASKETS {
+            rows::copy_rows(
+                &mut *book,
+                layout::PAIRS + layout::SQUARE * k,
+                layout::MOST_PARTICIPANTS,
+                self.participants,
+                self.participants,
+                self.pairs,
+                square * k,
+                self.participants,
+            );
+        }
+    }
+
+    // "Opening sets all but its own data to 0, places beyond the day's sizes too".
+    fn write(&self, book: &mut [u64])
+        requires { length book.old ≡ book_length }
+        ensures { book.new ≡ open_written self.now.participants self.now.issues self.now.codes.now self.now.terms.now self.now.receipts.now self.now.pairs.now }
+    {
+        book.fill(0);
+        book[layout::PARTICIPANTS] = self.participants as u64;
+        book[layout::ISSUES] = self.issues as u64;
+        book[layout::CODES..layout::CODES + self.codes.len()].copy_from_slice(self.codes);
+        book[layout::TERMS..layout::TERMS + self.terms.len()].copy_from_slice(self.terms);
         rows::copy_rows(
             &mut *book,
-            layout::PAIRS + layout::SQUARE * k,
-            layout::MOST_PARTICIPANTS,
-            participants,
-            participants,
-            pairs,
-            square * k,
-            participants,
+            layout::RECEIPTS,
+            layout::MOST_ISSUES,
+            self.participants,
+            self.issues,
+            self.receipts,
+            0,
+            self.issues,
         );
+        self.write_marks(book);
     }
-}
 
-// "Opening sets all but its own data to 0, places beyond the day's sizes too".
-fn write_open(
-    participants: usize,
-    issues: usize,
-    codes: &[u64],
-    terms: &[u64],
-    receipts: &[u64],
-    pairs: &[u64],
-    book: &mut [u64],
-)
-    requires { Tables participants issues codes.now terms.now receipts.now pairs.now book.old }
-    ensures { book.new ≡ open_written participants issues codes.now terms.now receipts.now pairs.now }
-{
-    book.fill(0);
-    book[layout::PARTICIPANTS] = participants as u64;
-    book[layout::ISSUES] = issues as u64;
-    rows::copy_rows(
-        &mut *book,
-        layout::CODES,
-        layout::CODE,
-        issues,
-        layout::CODE,
-        codes,
-        0,
-        layout::CODE,
-    );
-    rows::copy_rows(
-        &mut *book,
-        layout::TERMS,
-        layout::TERM,
-        issues,
-        layout::TERM,
-        terms,
-        0,
-        layout::TERM,
-    );
-    rows::copy_rows(
-        &mut *book,
-        layout::RECEIPTS,
-        layout::MOST_ISSUES,
-        participants,
-        issues,
-        receipts,
-        0,
-        issues,
-    );
-    copy_marks(&mut *book, participants, pairs);
-}
-
-// With every length right: the codes, the terms, the receipts and the pair marks, each over all items.
-fn open_lengths(
-    participants: usize,
-    issues: usize,
-    codes: &[u8],
-    terms: &[u64],
-    receipts: &[u64],
-    pairs: &[u64],
-    book: &mut [u64],
-) -> Result<(), Refusal>
-    requires { Lengths participants issues codes.now terms.now receipts.now pairs.now book.old }
-    ensures { (told result, book.new) ≡ open_lengths participants issues codes.now terms.now receipts.now pairs.now book.old }
-{
-    let mut wide = [0u64; 384];
-    widen(codes, &mut wide);
-    if !isin::codes_right(&wide, issues) {
-        return Err(Refusal::WrongCode);
+    // The codes, the terms, the receipts and the pair marks, each over all items.
+    fn enter(&self, book: &mut [u64]) -> Result<(), Refusal>
+        requires { length book.old ≡ book_length }
+        ensures { (told result, book.new) ≡ open_lengths self.now.participants self.now.issues self.now.codes.now self.now.terms.now self.now.receipts.now self.now.pairs.now book.old }
+    {
+        if !isin::codes_right(self.codes) {
+            return Err(Refusal::WrongCode);
+        }
+        if !ranges::terms_fit(self.terms) {
+            return Err(Refusal::WrongTerm);
+        }
+        let receipts = ranges::Rows {
+            cells: self.receipts,
+            stride: self.issues,
+            m: self.issues,
+        };
+        if !receipts.at_most(limits::RECEIPT) {
+            return Err(Refusal::WrongReceiptOrPair);
+        }
+        if !ranges::marks_fit(self.pairs, self.participants, self.participants) {
+            return Err(Refusal::WrongReceiptOrPair);
+        }
+        self.write(book);
+        Ok(())
     }
-    if !ranges::terms_fit(terms, 0, issues) {
-        return Err(Refusal::WrongTerm);
-    }
-    if !ranges::rows_at_most(receipts, 0, issues, participants, issues, limits::RECEIPT) {
-        return Err(Refusal::WrongReceiptOrPair);
-    }
-    let square = participants * participants;
-    if !ranges::marks_fit(pairs, 0, square, participants, participants) {
-        return Err(Refusal::WrongReceiptOrPair);
-    }
-    write_open(participants, issues, &wide, terms, receipts, pairs, book);
-    Ok(())
 }
 
 pub fn open(
@@ -152,5 +138,14 @@ pub fn open(
     if book.len() != layout::LENGTH {
         return Err(Refusal::WrongSize);
     }
-    open_lengths(n, m, codes, terms, receipts, pairs, book)
+    let codes = widen(codes);
+    let given = Given {
+        participants: n,
+        issues: m,
+        codes: codes.as_slice(),
+        terms,
+        receipts,
+        pairs,
+    };
+    given.enter(book)
 }

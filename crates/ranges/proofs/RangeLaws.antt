@@ -1,19 +1,21 @@
 -- The ranges of opening data as tests on cells. Assumes nothing.
-use Rattle.std.proofs.Common.{◌≡◌, ℕ, zero, suc, ◌+◌, ◌-◌, ◌*◌, ◌/◌, ◌<◌, ◌≤◌, Bool, ◌&&◌, eqb, leb, List, [], map, length, get_or, take, drop, drop-drop, refl, sym, ap, ◌∙◌, ap₂, mul-le-mul_left, mul-zero, mul-suc, arith, length-take, length-drop}
+use Rattle.std.proofs.Common.{◌≡◌, ℕ, zero, suc, ◌+◌, ◌-◌, ◌*◌, ◌/◌, ◌<◌, ◌≤◌, Bool, ◌&&◌, eqb, leb, List, [], ◌++◌, map, length, get_or, get_or-take, take, drop, drop-drop, refl, sym, ap, ◌∙◌, ap₂, mul-le-mul, mul-le-mul_left, mul-zero, mul-suc, arith, length-take, length-drop, length-append}
 use lib.Bits.{bit_or}
+use native.Mathlib.Decide.{dec_lt}
 use lib.ListN.{get_or-map}
-use Rattle.std.specs.Simd.{first_chunks}
 use Rattle.lists.specs.Tests.{all_below}
 use Rattle.lists.specs.Tables.{table, row, cell}
 use Rattle.lists.specs.Parts.{block, grid}
 use Rattle.lists.proofs.TestLaws.{all-ext}
 use Rattle.lists.proofs.TableLaws.{get_or-table}
-use Rattle.std.proofs.lemmas.List.{drop-take, take-take}
-use Rattle.lists.proofs.PartLaws.{part-is, part_length, table-agree, block-get, grid-get}
+use Rattle.std.proofs.Math.Nat.{mul-div_cancel_left}
+use Rattle.std.proofs.lemmas.List.{drop-take, take-take, length-take-le}
+use Rattle.lists.proofs.PartLaws.{part-is, part_length, length-block, table-agree, block-get, grid-get}
 use Rattle.rule.specs.Day.{terms_of}
 use Rattle.rule.specs.Sound.{terms_fit, all_terms_fit, at_most, marks_fit}
-use Rattle.ranges.specs.Ranges.{Rows, all_pass, row_passes, row_at_most, square_fits}
+use Rattle.ranges.specs.Ranges.{Squares, all_pass, row_passes, square_fits}
 use Rattle.ranges.proofs.ScanLaws.{all-and, all_split, all-overlap, bits_below}
+use Rattle.ranges.proofs.CutLaws.{cut, cut-count, cut-get, cut-room, part-first, part-rest}
 
 -- ---- a row
 
@@ -68,15 +70,8 @@ module _ (b : List ℕ) (first last : ℕ) where
 
 -- ---- rows
 
-module _ {b : List ℕ} {at stride n m : ℕ} (h : Rows b at stride n m) {o p : ℕ} (e : o ≡ at + stride * p) (l : p < n) where
-  pub rows_next : o + stride ≤ length b
-  rows_next = omega (arith, mul-le-mul_left stride l, h.room)
-
-  pub row-room : o + m ≤ length b
-  row-room = omega (arith, rows_next, h.wide)
-
 module _ (b : List ℕ) (at stride n m : ℕ) where
-  pub rows_are : (bound : ℕ) → at_most bound n m (grid b at stride n m) ≡ all_below n (λ p. row_at_most b (at + stride * p) m bound)
+  pub rows_are : (bound : ℕ) → at_most bound n m (grid b at stride n m) ≡ all_below n (λ p. row_passes (λ c. leb c bound) b (at + stride * p) m)
   unfolding at_most
   rows_are bound =
       all-ext _ _ n (λ p k. all-ext _ _ m (λ i l. ap (λ (x : ℕ). leb x bound) (grid-get b at stride n m p i k l)))
@@ -88,23 +83,14 @@ rows-joined test b at m zero = rw mul-zero
 rows-joined test b at m (suc n) =
     rw (mul-suc m n) (ap (λ (r : Bool). r && row_passes test b (at + m * n) m) (rows-joined test b at m n) ∙ sym (row-split test b at (m * n) m))
 
-pub square-joined : (b : List ℕ) (at stride n bound : ℕ) → n ≡ stride → row_at_most b at (stride * n) bound ≡ at_most bound n n (grid b at stride n n)
-square-joined b at stride n bound e =
-    sym (rows_are b at stride n n bound
-    ∙ ap (λ (m : ℕ). all_below n (λ p. row_at_most b (at + stride * p) m bound)) e
-    ∙ rows-joined (λ c. leb c bound) b at stride n)
+pub square-joined : (b : List ℕ) (stride n bound : ℕ) → n ≡ stride → length b ≡ stride * n → all_pass (λ c. leb c bound) b ≡ at_most bound n n (grid b 0 stride n n)
+square-joined b stride n bound e size =
+    whole-passes (λ c. leb c bound) b ∙ ap (row_passes (λ c. leb c bound) b 0) size
+    ∙ sym (rows_are b 0 stride n n bound
+    ∙ ap (λ (m : ℕ). all_below n (λ p. row_passes (λ c. leb c bound) b (0 + stride * p) m)) e
+    ∙ rows-joined (λ c. leb c bound) b 0 stride n)
 
 -- ---- terms
-
--- a list cut into lists of m
-chunk-get : (m k : ℕ) (xs : List ℕ) (i : ℕ) → i < k → get_or (first_chunks m k xs) i [] ≡ block xs (m * i) m
-chunk-get m zero xs i l = absurd (omega arith)
-chunk-get m (suc k) xs zero l = rw mul-zero
-chunk-get m (suc k) xs (suc i) l = chunk-get m k (drop m xs) i (omega arith) ∙ (let e : m + m * i ≡ m * suc i = omega (arith, mul-suc m i) in rw (drop-drop, e))
-
-chunk-count : (m k : ℕ) (xs : List ℕ) → length (first_chunks m k xs) ≡ k
-chunk-count m zero xs = refl
-chunk-count m (suc k) xs = ap suc (chunk-count m k (drop m xs))
 
 -- a part of a part
 block-within : (b : List ℕ) (at n o m : ℕ) → o + m ≤ n → block (block b at n) o m ≡ block b (at + o) m
@@ -114,50 +100,165 @@ block-within b at n o m h =
     ∙ ap (take m) (drop-take o (n - o) (drop at b)) ∙ take-take m (n - o) (drop o (drop at b)) (omega arith)
     ∙ ap (take m) (drop-drop o at b)
 
+-- rows of a part, as a slice of its own
+pub grid-there : (b : List ℕ) (at stride n m : ℕ) (part : List ℕ) → at + stride * n ≤ length b → part ≡ take (at + stride * n - at) (drop at b) → m ≤ stride
+    → grid part 0 stride n m ≡ grid b at stride n m
+grid-there b at stride n m part h e w =
+    ap (λ (x : List ℕ). grid x 0 stride n m) (e ∙ part-is b at (stride * n))
+    ∙ table-agree n _ _ (λ p l. let z : at + (0 + stride * p) ≡ at + stride * p = omega arith in
+    block-within b at (stride * n) (0 + stride * p) m (omega (arith, mul-le-mul_left stride l, w)) ∙ ap (λ (j : ℕ). block b j m) z)
+
 terms-are : (b : List ℕ) (at m : ℕ) → all_terms_fit m (map terms_of (grid b at 6 m 6)) ≡ all_below m (λ i. terms_fit (terms_of (block b (at + 6 * i) 6)))
 unfolding all_terms_fit
 terms-are b at m =
     all-ext _ _ m (λ i l. ap terms_fit (get_or-map terms_of (grid b at 6 m 6) i [] ∙ ap terms_of (get_or-table m (λ p. block b (at + 6 * p) 6) i [] l)))
 
 -- the terms as slices of six
-pub terms-cut : (b : List ℕ) (at m : ℕ) → at + 6 * m ≤ length b → {xs : List (List ℕ)}
-    → xs ≡ first_chunks 6 (length (take (at + 6 * m - at) (drop at b)) / 6) (take (at + 6 * m - at) (drop at b))
-    → all_below (length xs) (λ i. terms_fit (terms_of (get_or xs i []))) ≡ all_terms_fit m (map terms_of (grid b at 6 m 6))
-terms-cut b at m h {xs} e =
-    let p : length (take (at + 6 * m - at) (drop at b)) ≡ 6 * m = part_length b at (6 * m) h in
-    let k : length (take (at + 6 * m - at) (drop at b)) / 6 ≡ m = omega arith in
-    let f : xs ≡ first_chunks 6 m (block b at (6 * m)) = e ∙ ap₂ (first_chunks 6) k (part-is b at (6 * m)) in
-    ap (λ (ys : List (List ℕ)). all_below (length ys) (λ i. terms_fit (terms_of (get_or ys i [])))) f
-    ∙ ap (λ (n : ℕ). all_below n (λ i. terms_fit (terms_of (get_or (first_chunks 6 m (block b at (6 * m))) i [])))) (chunk-count 6 m (block b at (6 * m)))
-    ∙ all-ext _ _ m (λ i l. ap (λ (x : List ℕ). terms_fit (terms_of x)) (chunk-get 6 m (block b at (6 * m)) i l ∙ block-within b at (6 * m) (6 * i) 6 (omega arith)))
-    ∙ sym (terms-are b at m)
+pub terms-cut : (b : List ℕ) {xs : List (List ℕ)} → xs ≡ cut 6 b
+    → all_below (length xs) (λ i. terms_fit (terms_of (get_or xs i []))) ≡ all_terms_fit (length b / 6) (map terms_of (grid b 0 6 (length b / 6) 6))
+terms-cut b {xs} e =
+    let m : ℕ = length b / 6 in
+    ap (λ (ys : List (List ℕ)). all_below (length ys) (λ i. terms_fit (terms_of (get_or ys i [])))) e
+    ∙ ap (λ (n : ℕ). all_below n (λ i. terms_fit (terms_of (get_or (cut 6 b) i [])))) (cut-count 6 b)
+    ∙ all-ext _ _ m (λ i l. let z : 6 * i ≡ 0 + 6 * i = omega arith in ap (λ (x : List ℕ). terms_fit (terms_of x)) (cut-get 6 b i l ∙ ap (λ (o : ℕ). block b o 6) z))
+    ∙ sym (terms-are b 0 m)
+
+-- the terms of a part, as a slice of its own
+pub terms-there : (b : List ℕ) (at m : ℕ) → at + 6 * m ≤ length b → (part : List ℕ) → part ≡ take (at + 6 * m - at) (drop at b)
+    → all_terms_fit (length part / 6) (map terms_of (grid part 0 6 (length part / 6) 6)) ≡ all_terms_fit m (map terms_of (grid b at 6 m 6))
+terms-there b at m h part e =
+    let long : length part ≡ 6 * m = ap length e ∙ part_length b at (6 * m) h in
+    let k : length part / 6 ≡ m = omega arith in
+    ap₂ (λ (n : ℕ) (t : List (List ℕ)). all_terms_fit n (map terms_of t)) k (ap (λ (n : ℕ). grid part 0 6 n 6) k ∙ grid-there b at 6 m 6 part h e (omega arith))
+
+-- ---- rows of a slice, cut
+
+module _ (stride m : ℕ) (some : 0 < stride) (wide : m ≤ stride) where
+  -- the front of a row
+  pub front-passes : (test : ℕ → Bool) (b : List ℕ) (p : ℕ) → stride * p + stride ≤ length b → all_pass test (take m (block b (stride * p) stride)) ≡ row_passes test b (stride * p) m
+  front-passes test b p l =
+      let e : length (take m (block b (stride * p) stride)) ≡ m = length-take-le m (block b (stride * p) stride) (omega (arith, length-block b (stride * p) stride l)) in
+      ap (λ (n : ℕ). all_below n (λ i. test (get_or (take m (block b (stride * p) stride)) i 0))) e
+      ∙ all-ext _ _ m (λ i k. ap test (get_or-take m (block b (stride * p) stride) i 0 k ∙ block-get b (stride * p) stride i (omega arith)))
+
+  -- the rows' fronts pass a test
+  pub cut-passes : (test : ℕ → Bool) (b : List ℕ)
+      → all_below (length (cut stride b)) (λ p. all_pass test (take m (get_or (cut stride b) p []))) ≡ all_below (length b / stride) (λ p. row_passes test b (stride * p) m)
+  cut-passes test b =
+      ap (λ (n : ℕ). all_below n (λ p. all_pass test (take m (get_or (cut stride b) p [])))) (cut-count stride b)
+      ∙ all-ext _ _ (length b / stride) (λ p l. ap (λ (x : List ℕ). all_pass test (take m x)) (cut-get stride b p l) ∙ front-passes test b p (cut-room stride b p l))
+
+  pub rows-cut : (bound : ℕ) (b : List ℕ)
+      → all_below (length (cut stride b)) (λ p. all_pass (λ c. leb c bound) (take m (get_or (cut stride b) p []))) ≡ at_most bound (length b / stride) m (grid b 0 stride (length b / stride) m)
+  rows-cut bound b =
+      cut-passes (λ c. leb c bound) b
+      ∙ all-ext _ _ (length b / stride) (λ p l. let z : stride * p ≡ 0 + stride * p = omega arith in ap (λ (j : ℕ). row_passes (λ c. leb c bound) b j m) z)
+      ∙ sym (rows_are b 0 stride (length b / stride) m bound)
+
+  -- the same of n rows from a place on, lent as a slice of their own
+  pub part-cut : (test : ℕ → Bool) (b : List ℕ) (at n : ℕ) (part : List ℕ) → at + stride * n ≤ length b → part ≡ take (at + stride * n - at) (drop at b)
+      → all_below (length (cut stride part)) (λ p. all_pass test (take m (get_or (cut stride part) p []))) ≡ all_below n (λ p. row_passes test b (at + stride * p) m)
+  part-cut test b at n part h e =
+      let same : part ≡ block b at (stride * n) = e ∙ part-is b at (stride * n) in
+      let k : length part / stride ≡ n = ap (λ (l : ℕ). l / stride) (ap length e ∙ part_length b at (stride * n) h) ∙ mul-div_cancel_left n some in
+      cut-passes test part ∙ ap₂ (λ (j : ℕ) (x : List ℕ). all_below j (λ p. row_passes test x (stride * p) m)) k same
+      ∙ all-ext _ _ n (λ p l. all-ext _ _ m (λ i j. let z : at + (stride * p + i) ≡ at + stride * p + i = omega arith in
+      ap test (block-get b at (stride * n) (stride * p + i) (omega (arith, mul-le-mul_left stride l, mul-suc stride p, wide)) ∙ ap (λ (o : ℕ). get_or b o 0) z)))
+
+-- rows of a part, as a slice of its own
+pub rows-there : (bound : ℕ) (b : List ℕ) (at stride n m : ℕ) (part : List ℕ) → 0 < stride → m ≤ stride → at + stride * n ≤ length b → part ≡ take (at + stride * n - at) (drop at b)
+    → at_most bound (length part / stride) m (grid part 0 stride (length part / stride) m) ≡ at_most bound n m (grid b at stride n m)
+rows-there bound b at stride n m part some w h e =
+    let k : length part / stride ≡ n = ap (λ (l : ℕ). l / stride) (ap length e ∙ part_length b at (stride * n) h) ∙ mul-div_cancel_left n some in
+    ap₂ (λ (j : ℕ) (t : List (List ℕ)). at_most bound j m t) k (ap (λ (j : ℕ). grid part 0 stride j m) k ∙ grid-there b at stride n m part h e w)
+
+-- ---- n rows gone through one after the other
+
+-- of those below p, and what is left
+pub record Left (b : List ℕ) (s n : ℕ) (rest : List ℕ) (p : ℕ) : Type 0 where
+  pub here : p ≤ n
+  pub left : rest ≡ drop (s * p) b
+
+pub left-all : (b : List ℕ) (s n : ℕ) (rest : List ℕ) → rest ≡ b → Left b s n rest 0
+left-all b s n rest e = record { here = omega arith; left = rw mul-zero e }
+
+module _ (b : List ℕ) (s n : ℕ) (some : 0 < s) (size : length b ≡ s * n) (rest : List ℕ) (p : ℕ) (w : Left b s n rest p) where
+  left-long : length rest ≡ s * n - s * p
+  left-long = ap length w.left ∙ length-drop (s * p) b ∙ ap (λ (k : ℕ). k - s * p) size
+
+  module _ (x ys : List ℕ) (e : rest ≡ x ++ ys) (l : length x ≡ s) where
+    pub row-left : p < n
+    row-left = go (dec_lt p n)
+      where
+        go : Dec (p < n) → p < n
+        go (yes k) = k
+        go (no k) = let z : p ≡ n = omega (arith, w.here) in absurd (omega (arith, ap (λ (j : ℕ). s * j) z, left-long, ap length e, length-append x ys, l, some))
+
+    pub row-is : x ≡ block b (s * p) s
+    row-is = part-first s rest x ys e l ∙ ap (take s) w.left
+
+    pub row-room : s * p + s ≤ length b
+    row-room = omega (arith, mul-le-mul_left s row-left, mul-suc s p, size)
+
+    pub left-more : Left b s n ys (p + 1)
+    left-more = record {
+      here = omega (arith, row-left);
+      left = let z : s * p + s ≡ s * (p + 1) = omega arith in part-rest s rest x ys e l ∙ ap (drop s) w.left ∙ drop-drop s (s * p) b ∙ ap (λ (k : ℕ). drop k b) z;
+    }
+
+  pub none-left : length rest < s → n ≤ p
+  none-left l = go (dec_lt p n)
+    where
+      go : Dec (p < n) → n ≤ p
+      go (yes k) = absurd (omega (arith, mul-le-mul_left s k, mul-suc s p, left-long, l))
+      go (no k) = omega arith
 
 -- ---- pair marks
 
-pub marks-are : (b : List ℕ) (at apart stride n : ℕ)
-    → marks_fit n (table 7 (λ k. grid b (at + apart * k) stride n n)) ≡ all_below 7 (λ k. square_fits b (at + apart * k) stride n)
+marks-are : (b : List ℕ) (apart stride n : ℕ) → marks_fit n (table 7 (λ k. grid b (apart * k) stride n n)) ≡ all_below 7 (λ k. square_fits b (apart * k) stride n)
 unfolding marks_fit
-marks-are b at apart stride n =
+marks-are b apart stride n =
     sym (all-and (λ k. at_most 1 n n (row t k)) (λ k. all_below n (λ p. eqb (cell (row t k) p p) 0)) 7)
     ∙ all-ext _ _ 7 (λ k l. ap (λ (r : List (List ℕ)). at_most 1 n n r && all_below n (λ p. eqb (cell r p p) 0)) (get_or-table 7 f k [] l)
-    ∙ ap (λ (r : Bool). at_most 1 n n (f k) && r) (all-ext _ _ n (λ p j. ap (λ (x : ℕ). eqb x 0) (grid-get b (at + apart * k) stride n n p p j j))))
+    ∙ ap (λ (r : Bool). at_most 1 n n (f k) && r) (all-ext _ _ n (λ p j. ap (λ (x : ℕ). eqb x 0) (grid-get b (apart * k) stride n n p p j j))))
   where
     f : ℕ → List (List ℕ)
-    f k = grid b (at + apart * k) stride n n
+    f k = grid b (apart * k) stride n n
 
     t : List (List (List ℕ))
     t = table 7 f
 
--- a square as a slice of its own
-pub square-there : (b : List ℕ) (o stride n : ℕ) → n ≤ stride → square_fits (take (o + stride * n - o) (drop o b)) 0 stride n ≡ square_fits b o stride n
-square-there b o stride n h =
-    ap (λ (s : List ℕ). square_fits s 0 stride n) (part-is b o (stride * n))
-    ∙ ap₂ (λ (t : List (List ℕ)) (d : Bool). at_most 1 n n t && d)
+-- a square at the front of w cells from a place on
+pub square-there : (b : List ℕ) (o w stride n : ℕ) → n ≤ stride → stride * n ≤ w → square_fits (block b o w) 0 stride n ≡ square_fits b o stride n
+square-there b o w stride n h k =
+    ap₂ (λ (t : List (List ℕ)) (d : Bool). at_most 1 n n t && d)
     (table-agree n _ _ (λ p l. let e : o + (0 + stride * p) ≡ o + stride * p = omega arith in
-    block-within b o (stride * n) (0 + stride * p) n (omega (arith, mul-le-mul_left stride l, h)) ∙ ap (λ (j : ℕ). block b j n) e))
+    block-within b o w (0 + stride * p) n (omega (arith, mul-le-mul_left stride l, h, k)) ∙ ap (λ (j : ℕ). block b j n) e))
     (all-ext _ _ n (λ p l. let e : o + (0 + stride * p + p) ≡ o + stride * p + p = omega arith in
-    ap (λ (x : ℕ). eqb x 0) (block-get b o (stride * n) (0 + stride * p + p) (omega (arith, mul-le-mul_left stride l, h)) ∙ ap (λ (j : ℕ). get_or b j 0) e)))
+    ap (λ (x : ℕ). eqb x 0) (block-get b o w (0 + stride * p + p) (omega (arith, mul-le-mul_left stride l, h, k)) ∙ ap (λ (j : ℕ). get_or b j 0) e)))
 
--- the seven baskets' squares, so many cells apart
-pub within-seven : (apart k : ℕ) → k < 7 → apart * k + apart ≤ 7 * apart
-within-seven apart k l = omega (arith, mul-le-mul_left apart l)
+module _ (b : List ℕ) (stride n : ℕ) (w : Squares b stride n) where
+  pub square-some : 0 < stride * stride
+  square-some = omega (arith, mul-le-mul w.apart.some w.apart.some)
+
+  seven : length b / (stride * stride) ≡ 7
+  seven = ap (λ (k : ℕ). k / (stride * stride)) w.size ∙ mul-div_cancel_left 7 square-some
+
+  -- the marks as slices of a square each
+  pub marks-cut : all_below (length (cut (stride * stride) b)) (λ k. square_fits (get_or (cut (stride * stride) b) k []) 0 stride n)
+      ≡ marks_fit n (table 7 (λ k. grid b (stride * stride * k) stride n n))
+  marks-cut =
+      ap (λ (m : ℕ). all_below m (λ k. square_fits (get_or (cut (stride * stride) b) k []) 0 stride n)) (cut-count (stride * stride) b ∙ seven)
+      ∙ all-ext _ _ 7 (λ k l. ap (λ (x : List ℕ). square_fits x 0 stride n) (cut-get (stride * stride) b k (omega (arith, seven)))
+      ∙ square-there b (stride * stride * k) (stride * stride) stride n w.apart.wide (mul-le-mul_left stride w.apart.wide))
+      ∙ sym (marks-are b (stride * stride) stride n)
+
+-- marks of a part, as a slice of its own
+pub marks-there : (b : List ℕ) (at stride n : ℕ) (part : List ℕ) → n ≤ stride → part ≡ take (at + stride * stride * 7 - at) (drop at b)
+    → table 7 (λ k. grid part (stride * stride * k) stride n n) ≡ table 7 (λ k. grid b (at + stride * stride * k) stride n n)
+marks-there b at stride n part h e =
+    ap (λ (x : List ℕ). table 7 (λ k. grid x (stride * stride * k) stride n n)) (e ∙ part-is b at (stride * stride * 7))
+    ∙ table-agree 7 _ _ (λ k l. table-agree n _ _ (λ p j. let z : at + (stride * stride * k + stride * p) ≡ at + stride * stride * k + stride * p = omega arith in
+    block-within b at (stride * stride * 7) (stride * stride * k + stride * p) n
+    (omega (arith, mul-le-mul_left (stride * stride) l, mul-suc (stride * stride) k, mul-le-mul_left stride j, mul-suc stride p, mul-le-mul_left stride h, h))
+    ∙ ap (λ (o : ℕ). block b o n) z))

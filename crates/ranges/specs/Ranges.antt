@@ -1,32 +1,23 @@
--- The ranges of opening data as tests on cells, and the room that they need. Assumes nothing.
-use Rattle.std.specs.Prelude.{ℕ, ◌+◌, ◌*◌, ◌≤◌, Bool, ◌&&◌, leb, List, length, nat_eq, slice_index}
+-- The ranges of opening data as tests on cells, and what their slices need. Assumes nothing.
+use Rattle.std.specs.Prelude.{◌≡◌, ℕ, ◌+◌, ◌*◌, ◌≤◌, ◌<◌, Bool, ◌&&◌, List, length, nat_eq, slice_index}
 use Rattle.lists.specs.Tests.{all_below}
 use Rattle.lists.specs.Parts.{grid}
 use Rattle.rule.specs.Sound.{at_most}
 
--- n cells from a place on
-pub record Room (cells : List ℕ) (at n : ℕ) : Type 0 where
-  pub room : at + n ≤ length cells
-
--- n rows of m cells, a stride apart
-pub record Rows (cells : List ℕ) (at stride n m : ℕ) : Type 0 where
+-- rows a stride apart, of which m cells count
+pub record Apart (stride m : ℕ) : Type 0 where
+  pub some : 0 < stride
   pub wide : m ≤ stride
-  pub room : at + stride * n ≤ length cells
 
--- and a bound on each cell, which has not the highest bit
-pub record LimitedRow (cells : List ℕ) (at m bound : ℕ) : Type 0 where
-  pub room : Room cells at m
-  pub small : bound ≤ 9223372036854775807
+-- n such rows of n cells
+pub record SquareOf (marks : List ℕ) (stride n : ℕ) : Type 0 where
+  pub apart : Apart stride n
+  pub size : length marks ≡ stride * n
 
-pub record LimitedRows (cells : List ℕ) (at stride n m bound : ℕ) : Type 0 where
-  pub rows : Rows cells at stride n m
-  pub small : bound ≤ 9223372036854775807
-
--- for each of the seven baskets n rows of n cells
-pub record Squares (cells : List ℕ) (at apart stride n : ℕ) : Type 0 where
-  pub wide : n ≤ stride
-  pub square : stride * n ≤ apart
-  pub room : at + apart * 7 ≤ length cells
+-- seven squares of `stride` such rows
+pub record Squares (marks : List ℕ) (stride n : ℕ) : Type 0 where
+  pub apart : Apart stride n
+  pub size : length marks ≡ stride * stride * 7
 
 -- every cell passes a test
 abbrev pub all_pass : (ℕ → Bool) → List ℕ → Bool
@@ -35,9 +26,6 @@ all_pass test b = all_below (length b) (λ i. test (slice_index b i))
 -- m cells from a place on pass a test
 abbrev pub row_passes : (ℕ → Bool) → List ℕ → ℕ → ℕ → Bool
 row_passes test b at m = all_below m (λ i. test (slice_index b (at + i)))
-
-abbrev pub row_at_most : List ℕ → ℕ → ℕ → ℕ → Bool
-row_at_most b at m bound = row_passes (λ c. leb c bound) b at m
 
 -- a basket's pair marks: none of a participant with itself, and each 0 or 1
 abbrev pub none_on_oneself : List ℕ → ℕ → ℕ → ℕ → Bool

@@ -1,12 +1,12 @@
-// The ranges of opening data, tested on cells that stand anywhere in a slice: in the book, or in the arrays that are lent to opening.
+// The ranges of opening data, tested on cells that are lent: parts of the book, or the arrays of an opening.
 #![tactic(auto)]
 
-ghost use Rattle.std.specs.Prelude.{◌≡◌, ℕ, ◌+◌, ◌-◌, ◌*◌, ◌^◌, ◌<◌, ◌≤◌, Bool, map, length, nat_le};
+ghost use Rattle.std.specs.Prelude.{◌≡◌, ℕ, ◌-◌, ◌*◌, ◌/◌, ◌^◌, ◌<◌, ◌≤◌, Bool, map, length, nat_le};
 ghost use Rattle.lists.specs.Tables.{table};
 ghost use Rattle.lists.specs.Parts.{grid};
 ghost use Rattle.rule.specs.Day.{terms_of};
 ghost use Rattle.rule.specs.Sound.{sizes_fit, terms_fit, all_terms_fit, at_most, marks_fit};
-ghost use Rattle.ranges.specs.Ranges.{Rows, LimitedRow, LimitedRows, Squares, all_pass, row_at_most, none_on_oneself, square_fits};
+ghost use Rattle.ranges.specs.Ranges.{Apart, SquareOf, Squares, all_pass, none_on_oneself, square_fits};
 
 // The largest number that has not the highest bit.
 pub const LOW_BITS: u64 = 9223372036854775807;
@@ -33,12 +33,12 @@ fn terms_are_in_range(terms: &[u64; 6]) -> bool
         && interest <= 1
 }
 
-pub fn terms_fit(cells: &[u64], at: usize, issues: usize) -> bool
-    requires { Rows cells.now at 6 issues 6 }
-    ensures { result ≡ all_terms_fit issues (map terms_of (grid cells.now at 6 issues 6)) }
+// The issues' terms stand one after the other.
+pub fn terms_fit(terms: &[u64]) -> bool
+    ensures { result ≡ all_terms_fit (length terms.now / 6) (map terms_of (grid terms.now 0 6 (length terms.now / 6) 6)) }
 {
-    let (terms, _) = cells[at..at + layout::TERM * issues].as_chunks();
-    terms.iter().all(terms_are_in_range)
+    let (issues, _) = terms.as_chunks();
+    issues.iter().all(terms_are_in_range)
 }
 
 // The highest bit is set exactly where the number is above the bound: what many numbers give is joined by `or`, and
@@ -62,20 +62,32 @@ pub fn joined<F: Fn(u64) -> u64>(cells: &[u64], bits_of: F) -> u64
     bits
 }
 
-// m cells, each at most the bound.
-pub fn row_at_most(cells: &[u64], at: usize, m: usize, bound: u64) -> bool
-    requires { LimitedRow cells.now at m bound }
-    ensures { result ≡ row_at_most cells.now at m bound }
+// Is each cell at most the bound?
+pub fn row_at_most(row: &[u64], bound: u64) -> bool
+    requires { bound ≤ 9223372036854775807 }
+    ensures { result ≡ all_pass (λ cell. nat_le cell bound) row.now }
 {
-    joined(&cells[at..at + m], |cell| above(cell, bound)) <= LOW_BITS
+    joined(row, |cell| above(cell, bound)) <= LOW_BITS
 }
 
-// n such rows, a stride apart. Place and sizes are no struct: each caller has other rows, and asks once.
-pub fn rows_at_most(cells: &[u64], at: usize, stride: usize, n: usize, m: usize, bound: u64) -> bool
-    requires { LimitedRows cells.now at stride n m bound }
-    ensures { result ≡ at_most bound n m (grid cells.now at stride n m) }
-{
-    (0..n).all(|row| row_at_most(cells, at + stride * row, m, bound))
+// Rows a stride apart, of which the first m cells count.
+#[derive(Drop)]
+pub struct Rows<'a> {
+    pub cells: &'a [u64],
+    pub stride: usize,
+    pub m: usize,
+    ghost apart: { Apart stride m },
+}
+
+impl<'a> Rows<'a> {
+    pub fn at_most(&self, bound: u64) -> bool
+        requires { bound ≤ 9223372036854775807 }
+        ensures { result ≡ at_most bound (length self.now.cells.now / self.now.stride) self.now.m (grid self.now.cells.now 0 self.now.stride (length self.now.cells.now / self.now.stride) self.now.m) }
+    {
+        self.cells
+            .chunks_exact(self.stride)
+            .all(|row| row_at_most(&row[..self.m], bound))
+    }
 }
 
 // The bits of marks, each 0 or 1 where they are no more than the lowest.
@@ -103,7 +115,7 @@ struct Square<'a> {
     marks: &'a [u64],
     stride: usize,
     n: usize,
-    ghost rows: { Rows marks.now 0 stride n n },
+    ghost rows: { SquareOf marks.now stride n },
 }
 
 impl<'a> Square<'a> {
@@ -112,12 +124,11 @@ impl<'a> Square<'a> {
         ensures { result ≡ at_most 1 self.now.n self.now.n (grid self.now.marks.now 0 self.now.stride self.now.n self.now.n) }
     {
         if self.n == self.stride {
-            return bits_of(&self.marks[..self.stride * self.n]) <= 1;
+            return bits_of(self.marks) <= 1;
         }
         let mut bits = 0;
-        for p in 0..self.n {
-            let o = self.stride * p;
-            bits |= bits_of_row(&self.marks[o..o + self.n]);
+        for row in self.marks.chunks_exact(self.stride) {
+            bits |= bits_of_row(&row[..self.n]);
         }
         bits <= 1
     }
@@ -127,30 +138,32 @@ impl<'a> Square<'a> {
         ensures { result ≡ none_on_oneself self.now.marks.now 0 self.now.stride self.now.n }
     {
         let mut bits = 0;
-        for p in 0..self.n {
-            bits |= self.marks[self.stride * p + p];
+        for (p, row) in self.marks.chunks_exact(self.stride).enumerate() {
+            bits |= row[p];
         }
         bits == 0
     }
 }
 
-// One basket's pair marks.
-fn square_fits(cells: &[u64], at: usize, stride: usize, n: usize) -> bool
-    requires { Rows cells.now at stride n n }
-    ensures { result ≡ square_fits cells.now at stride n }
+// One basket's pair marks, at the front of its square.
+fn square_fits(square: &[u64], stride: usize, n: usize) -> bool
+    requires { Apart stride n × (length square.now ≡ stride * stride) }
+    ensures { result ≡ square_fits square.now 0 stride n }
 {
     let square = Square {
-        marks: &cells[at..at + stride * n],
+        marks: &square[..stride * n],
         stride,
         n,
     };
     square.at_most_one() && square.none_on_oneself()
 }
 
-// The pair marks of the seven baskets, each basket's so many cells after the last one's.
-pub fn marks_fit(cells: &[u64], at: usize, apart: usize, stride: usize, n: usize) -> bool
-    requires { Squares cells.now at apart stride n }
-    ensures { result ≡ marks_fit n (table 7 (λ k. grid cells.now (at + apart * k) stride n n)) }
+// The pair marks of the seven baskets, in squares of as many rows as cells in a row.
+pub fn marks_fit(marks: &[u64], stride: usize, n: usize) -> bool
+    requires { Squares marks.now stride n }
+    ensures { result ≡ marks_fit n (table 7 (λ k. grid marks.now (stride * stride * k) stride n n)) }
 {
-    (0..layout::BASKETS).all(|k| square_fits(cells, at + apart * k, stride, n))
+    marks
+        .chunks_exact(stride * stride)
+        .all(|square| square_fits(square, stride, n))
 }

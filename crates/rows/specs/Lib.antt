@@ -1,2 +1,2 @@
--- What loops over one row of cells ask and leave.
+-- What the contracts of rows cite.
 pub mod Rows

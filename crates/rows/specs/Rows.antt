@@ -1,4 +1,4 @@
--- Loops over one row of cells: what they ask, and what they leave. Assumes nothing.
+-- What a loop over one row of cells leaves, and what copying rows asks. Assumes nothing.
 use Rattle.std.specs.Prelude.{◌≡◌, List, ℕ, ◌+◌, ◌*◌, ◌≤◌, ◌<◌, length, get_or}
 
 -- P holds of each cell of the row, by its place

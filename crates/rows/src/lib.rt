@@ -11,8 +11,9 @@ pub fn copy_with<F: Fn(u64) -> u64>(cells: &mut [u64], source: &[u64], f: F)
     requires callable { F.IsAlwaysCallable f }
     ensures { (i : ℕ) → i < length source.now → F.post f (slice_index source.now i) (slice_index cells.new i) }
 {
-    for (i, cell) in cells.iter_mut().enumerate() {
-        *cell = f(source[i]);
+    cells.copy_from_slice(source);
+    for cell in cells {
+        *cell = f(*cell);
     }
 }
 

@@ -47,16 +47,9 @@ module _ (draw : List ℕ) (n : ℕ) where
   unfolding each_once
   other_length h = sym (stop (eqb (length draw) n) (all_below n (once draw)) (ne_eqb (length draw) n h))
 
-  pub not-once : length draw ≡ n → (p : ℕ) → p < n → total (named p) draw ≢ 1 → false ≡ each_once draw n
+  pub same_length : {r : Bool} → length draw ≡ n → r ≡ all_below n (once draw) → r ≡ each_once draw n
   unfolding each_once
-  not-once e p l h = stop-all (all-stop (once draw) n p l (ne_eqb (total (named p) draw) 1 h))
-    where
-      stop-all : all_below n (once draw) ≡ false → false ≡ (eqb (length draw) n && all_below n (once draw))
-      stop-all f = sym (ap (λ (t : Bool). eqb (length draw) n && t) f ∙ and_no (eqb (length draw) n))
-
-  pub all_once : length draw ≡ n → all_below n (once draw) ≡ true → true ≡ each_once draw n
-  unfolding each_once
-  all_once e h = sym (go (eqb (length draw) n) (all_below n (once draw)) (eq-eqb (length draw) n e) h)
+  same_length e h = h ∙ sym (go (eqb (length draw) n) (all_below n (once draw)) (eq-eqb (length draw) n e) refl)
 
 -- ---- what each return of a run shows
 

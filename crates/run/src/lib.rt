@@ -27,15 +27,7 @@ fn times_named(draw: &[u64], participant: u64) -> usize
 fn names_each_once(draw: &[u64], participants: u64) -> bool
     ensures { result ≡ each_once draw.now participants }
 {
-    if draw.len() as u64 != participants {
-        return false;
-    }
-    for p in 0..participants {
-        if times_named(draw, p) != 1 {
-            return false;
-        }
-    }
-    true
+    draw.len() as u64 == participants && (0..participants).all(|p| times_named(draw, p) == 1)
 }
 
 // In a sound book.

@@ -11,7 +11,7 @@ use book::{limits, sound};
 use rule::{Refusal, Yen};
 
 // "amount 0 or above 10^12 yen"
-const AMOUNT_LIMIT: u64 = 1_000_000_000_000;
+const AMOUNT_LIMIT: Yen = Yen(1_000_000_000_000);
 
 // Where the participant's position in the basket stands.
 fn place(basket: u64, participant: u64) -> usize
@@ -21,74 +21,74 @@ fn place(basket: u64, participant: u64) -> usize
     layout::POSITIONS + layout::MOST_PARTICIPANTS * (basket as usize) + (participant as usize)
 }
 
-// Between two participants of the day: the checks on the basket, the positions and the count, and then the writes.
-fn trade_between(
-    book: &mut [u64],
+// A trade as it is given.
+#[derive(Clone, Copy)]
+struct Sale {
     seller: u64,
     buyer: u64,
     basket: u64,
-    yen: u64,
-) -> Result<(), Refusal>
-    requires { Between book.old seller buyer basket yen }
-    ensures { (told result, book.new) ≡ trade_between book.old seller buyer basket yen }
-{
-    if !sound::tradable(book, basket as usize) {
-        return Err(Refusal::NoUnmarkedIssue);
-    }
-    let at_seller = place(basket, seller);
-    let at_buyer = place(basket, buyer);
-    let sold = book[at_seller].wrapping_add(yen);
-    let bought = book[at_buyer].wrapping_sub(yen);
-    if sound::owed_of(sold) > limits::POSITION {
-        return Err(Refusal::PositionTooLarge);
-    }
-    if sound::due_of(bought) > limits::POSITION {
-        return Err(Refusal::PositionTooLarge);
-    }
-    let trades = book[layout::TRADES];
-    if trades >= limits::TRADES {
-        return Err(Refusal::TooManyTrades);
-    }
-    book[at_seller] = sold;
-    book[at_buyer] = bought;
-    book[layout::TRADES] = trades + 1;
-    Ok(())
+    amount: Yen,
 }
 
-// In a sound book: the checks on the day, the parties and the amount come first.
-fn trade_sound(
-    book: &mut [u64],
-    seller: u64,
-    buyer: u64,
-    basket: u64,
-    yen: u64,
-) -> Result<(), Refusal>
-    requires { SoundBook book.old }
-    ensures { (told result, book.new) ≡ trade_sound book.old seller buyer basket yen }
-{
-    if book[layout::RUNS] >= 3 {
-        return Err(Refusal::ThreeRunsDone);
+impl Sale {
+    // Between two participants of the day: the checks on the basket, the positions and the count, and then the writes.
+    fn move_yen(self, book: &mut [u64]) -> Result<(), Refusal>
+        requires { Between book.old self.seller self.buyer self.basket self.amount.0 }
+        ensures { (told result, book.new) ≡ trade_between book.old self.seller self.buyer self.basket self.amount.0 }
+    {
+        if !sound::tradable(book, self.basket as usize) {
+            return Err(Refusal::NoUnmarkedIssue);
+        }
+        let at_seller = place(self.basket, self.seller);
+        let at_buyer = place(self.basket, self.buyer);
+        let sold = book[at_seller].wrapping_add(self.amount.0);
+        let bought = book[at_buyer].wrapping_sub(self.amount.0);
+        // Cells and their limits are numbers: a rule of the project.
+        if sound::owed_of(sold) > limits::POSITION {
+            return Err(Refusal::PositionTooLarge);
+        }
+        if sound::due_of(bought) > limits::POSITION {
+            return Err(Refusal::PositionTooLarge);
+        }
+        let trades = book[layout::TRADES];
+        if trades >= limits::TRADES {
+            return Err(Refusal::TooManyTrades);
+        }
+        book[at_seller] = sold;
+        book[at_buyer] = bought;
+        book[layout::TRADES] = trades + 1;
+        Ok(())
     }
-    let participants = book[layout::PARTICIPANTS];
-    if seller >= participants {
-        return Err(Refusal::NotOfDay);
+
+    // In a sound book: the checks on the day, the parties and the amount come first.
+    fn enter(self, book: &mut [u64]) -> Result<(), Refusal>
+        requires { SoundBook book.old }
+        ensures { (told result, book.new) ≡ trade_sound book.old self.seller self.buyer self.basket self.amount.0 }
+    {
+        if book[layout::RUNS] >= 3 {
+            return Err(Refusal::ThreeRunsDone);
+        }
+        let participants = book[layout::PARTICIPANTS];
+        if self.seller >= participants {
+            return Err(Refusal::NotOfDay);
+        }
+        if self.buyer >= participants {
+            return Err(Refusal::NotOfDay);
+        }
+        if self.basket >= 7 {
+            return Err(Refusal::NotOfDay);
+        }
+        if self.seller == self.buyer {
+            return Err(Refusal::NotOfDay);
+        }
+        if self.amount == Yen(0) {
+            return Err(Refusal::WrongAmount);
+        }
+        if self.amount > AMOUNT_LIMIT {
+            return Err(Refusal::WrongAmount);
+        }
+        self.move_yen(book)
     }
-    if buyer >= participants {
-        return Err(Refusal::NotOfDay);
-    }
-    if basket >= 7 {
-        return Err(Refusal::NotOfDay);
-    }
-    if seller == buyer {
-        return Err(Refusal::NotOfDay);
-    }
-    if yen == 0 {
-        return Err(Refusal::WrongAmount);
-    }
-    if yen > AMOUNT_LIMIT {
-        return Err(Refusal::WrongAmount);
-    }
-    trade_between(book, seller, buyer, basket, yen)
 }
 
 pub fn trade(
@@ -103,5 +103,11 @@ pub fn trade(
     if !sound::sound(book) {
         return Err(Refusal::UnsoundBook);
     }
-    trade_sound(book, seller, buyer, basket, amount.0)
+    let sale = Sale {
+        seller,
+        buyer,
+        basket,
+        amount,
+    };
+    sale.enter(book)
 }

@@ -11,11 +11,11 @@ returns-then-all c =
     codes-go _ _ _
     (cases_from_all _ _ _ (λ x. is_code x ≡ true) (λ x. is_code x ≡ false) c.all.ensures.ran (YieldsList-from_slice _ c.iter.ensures.rest) (λ x q k. search rules) (λ x q k. search rules))
     c.if-all.true (c.is_sorted_by.ensures.cases before (answers_always _ _ _ (λ f a r g k. search rules)))
-    ∙ codes-are _ _ c.requires.room c.as_chunks.ensures.front
+    ∙ codes-are _ c.as_chunks.ensures.front
 
 pub returns-else-all : goal.returns-else-all
 returns-else-all c =
     codes-stop _ _
     (cases_from_all _ _ _ (λ x. is_code x ≡ true) (λ x. is_code x ≡ false) c.all.ensures.ran (YieldsList-from_slice _ c.iter.ensures.rest) (λ x q k. search rules) (λ x q k. search rules))
     c.if-all.false
-    ∙ codes-are _ _ c.requires.room c.as_chunks.ensures.front
+    ∙ codes-are _ c.as_chunks.ensures.front

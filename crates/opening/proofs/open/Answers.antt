@@ -1,8 +1,9 @@
 -- `opening::open` meets its contract. Assumes nothing.
-use Rattle.std.proofs.Common.{arith, mul-le-mul}
+use Rattle.std.proofs.Common.{List, ℕ, length, ap, ◌∙◌, arith, mul-le-mul}
 use Rattle.rule.proofs.SoundLaws.{sizes-of}
 use Rattle.opening.proofs.OpenLaws.{wrong-sizes, wrong-codes, wrong-terms, wrong-receipts, wrong-pairs, wrong-book, lengths, right-lengths}
 use Rattle.lists.proofs.TestLaws.{said-no, said-yes}
+use Rattle.opening.specs.Opened.{open_lengths}
 use Rattle.opening.proofs.open.Goals as goal
 
 pub returns-then-not-sizes_fit : goal.returns-then-not-sizes_fit
@@ -38,8 +39,18 @@ returns-then-pairs-n c = wrong-pairs _ _ _ _ _ _ _ (said-yes _ _ c.sizes_fit.ens
 pub returns-then-book-ne-LENGTH : goal.returns-then-book-ne-LENGTH
 returns-then-book-ne-LENGTH c = wrong-book _ _ _ _ _ _ _ (said-yes _ _ c.sizes_fit.ensures c.if-not-sizes_fit.false) (omega arith) (omega arith) (omega arith) (omega arith) (λ e. omega arith)
 
-pub open_lengths-requires : goal.open_lengths-requires
-open_lengths-requires c = lengths _ _ _ _ _ _ _ (said-yes _ _ c.sizes_fit.ensures c.if-not-sizes_fit.false) (omega arith) (omega arith) (omega arith) (omega arith) (omega arith)
+pub widen-codes-requires : goal.widen-codes-requires
+widen-codes-requires c = omega (arith, (sizes-of _ _ (said-yes _ _ c.sizes_fit.ensures c.if-not-sizes_fit.false)).most)
+
+pub invariant_of-given : goal.invariant_of-given
+invariant_of-given c =
+    record {
+      lengths = lengths _ _ _ _ _ _ c.args.book.now (said-yes _ _ c.sizes_fit.ensures c.if-not-sizes_fit.false)
+          (ap length (c.as_slice.ensures.value ∙ c.widen-codes.ensures) ∙ c.if-codes-m.false) (omega arith) (omega arith) (omega arith) (omega arith);
+    }
 
 pub returns : goal.returns
-returns c = right-lengths _ _ _ _ _ _ _ (said-yes _ _ c.sizes_fit.ensures c.if-not-sizes_fit.false) (omega arith) (omega arith) (omega arith) (omega arith) (omega arith) _ c.open_lengths.ensures
+returns c =
+    let a = c.args in
+    right-lengths _ _ _ _ _ _ _ (said-yes _ _ c.sizes_fit.ensures c.if-not-sizes_fit.false) (omega arith) (omega arith) (omega arith) (omega arith) (omega arith) _
+    (c.enter.ensures ∙ ap (λ (codes : List ℕ). open_lengths a.participants a.issues codes a.terms.now a.receipts.now a.pairs.now a.book.now) (c.as_slice.ensures.value ∙ c.widen-codes.ensures))

@@ -1,6 +1,6 @@
--- `opening::widen` meets its contract: the codes below i are cells. Assumes nothing.
-use Rattle.opening.proofs.OpenLaws.{Widened}
+-- `opening::widen` meets its contract: the bytes below the index are cells. Assumes nothing.
+use Rattle.std.proofs.Common.{◌≡◌, take}
 use Rattle.opening.proofs.widen.Given as goal
 
-abbrev pub invariant-loop-i : goal.invariant-loop-i
-invariant-loop-i l = Widened l.codes l.initial.cells l.cells l.i
+abbrev pub invariant-loop-byte : goal.invariant-loop-byte
+invariant-loop-byte l = l.cells.items ≡ take l.byte-index l.codes

@@ -1,5 +1,5 @@
 -- `ranges::terms_fit` meets its contract. Assumes nothing.
-use Rattle.std.proofs.Common.{List, [], ℕ, ◌∙◌, arith, rules}
+use Rattle.std.proofs.Common.{List, [], ℕ, ◌∙◌, rules}
 use Rattle.std.proofs.lemmas.Iterator.{YieldsList-from_slice}
 use Rattle.rule.specs.Day.{terms_of}
 use Rattle.rule.specs.Sound.{terms_fit}
@@ -9,7 +9,6 @@ use Rattle.ranges.proofs.terms_fit.Goals as goal
 
 pub returns : goal.returns
 returns c =
-    let a = c.args in
     all-items (λ (x : List ℕ). terms_fit (terms_of x)) c.as_chunks.result.0.now [] _ c.all.ensures.ran (YieldsList-from_slice _ cc)
     (λ x q k. search rules) (λ x q k. search rules)
-    ∙ terms-cut _ _ _ (omega arith) c.as_chunks.ensures.front
+    ∙ terms-cut _ c.as_chunks.ensures.front

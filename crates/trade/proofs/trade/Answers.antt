@@ -12,8 +12,8 @@ pub returns-then-not-sound : goal.returns-then-not-sound
 unfolding trade_of refusal
 returns-then-not-sound c = search (answers, said-no, rules)
 
-pub trade_sound-requires : goal.trade_sound-requires
-trade_sound-requires c =
+pub enter-requires : goal.enter-requires
+enter-requires c =
     sound-book _ (λ j. search rules) (said-yes _ _ c.sound.ensures c.if-not-sound.false)
 
 pub returns : goal.returns

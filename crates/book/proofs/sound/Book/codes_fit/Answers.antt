@@ -1,5 +1,5 @@
 -- `book::sound::Book::codes_fit` meets its contract. Assumes nothing.
-use Rattle.std.proofs.Common.{ℕ, ap, ◌∙◌}
+use Rattle.std.proofs.Common.{ℕ, ap, refl, ◌∙◌, arith}
 use Rattle.lists.specs.Parts.{grid}
 use Rattle.rule.specs.Isin.{codes_right}
 use Rattle.book.proofs.SoundLaws.{codes-there}
@@ -9,4 +9,4 @@ pub returns : goal.returns
 returns c =
     let s = c.args.self.now in
     let b = s.cells.now in
-    c.codes_right.ensures ∙ ap codes_right (codes-there b 4 s.issues ∙ ap (λ (n : ℕ). grid b 4 12 n 12) s.issues_are)
+    c.codes_right.ensures ∙ ap codes_right (codes-there b 4 s.issues _ (omega (arith, s.sized.cells, s.sized.issues, s.issues_are)) refl ∙ ap (λ (n : ℕ). grid b 4 12 n 12) s.issues_are)

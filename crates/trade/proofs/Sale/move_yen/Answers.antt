@@ -1,4 +1,4 @@
--- `trade::trade_between` meets its contract. Assumes nothing.
+-- `trade::Sale::move_yen` meets its contract. Assumes nothing.
 use Rattle.std.proofs.Common.{arith, le-leb, refl}
 use Rattle.std.proofs.lemmas.Bool.{lt-leb}
 use Rattle.lists.proofs.TestLaws.{said-no, said-yes}
@@ -8,7 +8,7 @@ use Rattle.rule.proofs.AnswerLaws.{refuse, pass, accept, denied, granted}
 use Rattle.trade.specs.Checked.{trade_between}
 use Rattle.trade.specs.Positions.{moved_of}
 use Rattle.trade.proofs.TradeLaws.{sold-is, bought-is, over, not-over, accepted-trade}
-use Rattle.trade.proofs.trade_between.Goals as goal
+use Rattle.trade.proofs.Sale.move_yen.Goals as goal
 
 pub returns-then-not-tradable : goal.returns-then-not-tradable
 unfolding trade_between trade_checks view
@@ -18,19 +18,19 @@ returns-then-not-tradable c =
 pub returns-then-owed_of-gt-POSITION : goal.returns-then-owed_of-gt-POSITION
 unfolding trade_between trade_checks view
 returns-then-owed_of-gt-POSITION c =
-    let a = c.args in
+    let a = c.args.self in
     let r = c.requires in
-    let sold = sold-is a.book.now r.sound a.basket a.seller _ a.yen r.basket r.sells c.place-at_seller.ensures r.most _ c.owed_of.ensures in
+    let sold = sold-is c.args.book.now r.sound a.basket a.seller _ a.amount.0 r.basket r.sells c.place-at_seller.ensures r.most _ c.owed_of.ensures in
     pass 9 _ _ _ _ _ _ (granted _ (said-yes _ _ c.tradable.ensures c.if-not-tradable.false))
     (refuse 10 _ _ _ _ _ (omega arith) (over _ _ _ sold c.if-owed_of-gt-POSITION.true))
 
 pub returns-then-due_of-gt-POSITION : goal.returns-then-due_of-gt-POSITION
 unfolding trade_between trade_checks view
 returns-then-due_of-gt-POSITION c =
-    let a = c.args in
+    let a = c.args.self in
     let r = c.requires in
-    let sold = sold-is a.book.now r.sound a.basket a.seller _ a.yen r.basket r.sells c.place-at_seller.ensures r.most _ c.owed_of.ensures in
-    let bought = bought-is a.book.now r.sound a.basket a.buyer _ a.yen r.basket r.buys c.place-at_buyer.ensures r.most _ c.due_of.ensures in
+    let sold = sold-is c.args.book.now r.sound a.basket a.seller _ a.amount.0 r.basket r.sells c.place-at_seller.ensures r.most _ c.owed_of.ensures in
+    let bought = bought-is c.args.book.now r.sound a.basket a.buyer _ a.amount.0 r.basket r.buys c.place-at_buyer.ensures r.most _ c.due_of.ensures in
     pass 9 _ _ _ _ _ _ (granted _ (said-yes _ _ c.tradable.ensures c.if-not-tradable.false))
     (pass 10 _ _ _ _ _ _ (not-over _ _ _ sold c.if-owed_of-gt-POSITION.false)
     (refuse 10 _ _ _ _ _ (omega arith) (over _ _ _ bought c.if-due_of-gt-POSITION.true)))
@@ -38,10 +38,10 @@ returns-then-due_of-gt-POSITION c =
 pub returns-then-trades-ge-TRADES : goal.returns-then-trades-ge-TRADES
 unfolding trade_between trade_checks view
 returns-then-trades-ge-TRADES c =
-    let a = c.args in
+    let a = c.args.self in
     let r = c.requires in
-    let sold = sold-is a.book.now r.sound a.basket a.seller _ a.yen r.basket r.sells c.place-at_seller.ensures r.most _ c.owed_of.ensures in
-    let bought = bought-is a.book.now r.sound a.basket a.buyer _ a.yen r.basket r.buys c.place-at_buyer.ensures r.most _ c.due_of.ensures in
+    let sold = sold-is c.args.book.now r.sound a.basket a.seller _ a.amount.0 r.basket r.sells c.place-at_seller.ensures r.most _ c.owed_of.ensures in
+    let bought = bought-is c.args.book.now r.sound a.basket a.buyer _ a.amount.0 r.basket r.buys c.place-at_buyer.ensures r.most _ c.due_of.ensures in
     pass 9 _ _ _ _ _ _ (granted _ (said-yes _ _ c.tradable.ensures c.if-not-tradable.false))
     (pass 10 _ _ _ _ _ _ (not-over _ _ _ sold c.if-owed_of-gt-POSITION.false)
     (pass 10 _ _ _ _ _ _ (not-over _ _ _ bought c.if-due_of-gt-POSITION.false)
@@ -50,11 +50,11 @@ returns-then-trades-ge-TRADES c =
 pub returns : goal.returns
 unfolding trade_between trade_checks view moved_of
 returns c =
-    let a = c.args in
+    let a = c.args.self in
     let r = c.requires in
-    let sold = sold-is a.book.now r.sound a.basket a.seller _ a.yen r.basket r.sells c.place-at_seller.ensures r.most _ c.owed_of.ensures in
-    let bought = bought-is a.book.now r.sound a.basket a.buyer _ a.yen r.basket r.buys c.place-at_buyer.ensures r.most _ c.due_of.ensures in
-    let made = accepted-trade a.book.now a.seller a.buyer a.basket a.yen r _ _ _ _ _ refl c.place-at_seller.ensures c.place-at_buyer.ensures
+    let sold = sold-is c.args.book.now r.sound a.basket a.seller _ a.amount.0 r.basket r.sells c.place-at_seller.ensures r.most _ c.owed_of.ensures in
+    let bought = bought-is c.args.book.now r.sound a.basket a.buyer _ a.amount.0 r.basket r.buys c.place-at_buyer.ensures r.most _ c.due_of.ensures in
+    let made = accepted-trade c.args.book.now a.seller a.buyer a.basket a.amount.0 r _ _ _ _ _ refl c.place-at_seller.ensures c.place-at_buyer.ensures
     (said-yes _ _ c.tradable.ensures c.if-not-tradable.false) sold c.if-owed_of-gt-POSITION.false bought c.if-due_of-gt-POSITION.false c.if-trades-ge-TRADES.false in
     pass 9 _ _ _ _ _ _ (granted _ (said-yes _ _ c.tradable.ensures c.if-not-tradable.false))
     (pass 10 _ _ _ _ _ _ (not-over _ _ _ sold c.if-owed_of-gt-POSITION.false)

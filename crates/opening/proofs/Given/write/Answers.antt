@@ -1,0 +1,19 @@
+-- `opening::Given::write` meets its contract. Assumes nothing.
+use Rattle.std.proofs.Common.{List, ℕ, ◌+◌, ◌-◌, length, ap}
+use borrow.Rule.Slice.PartMut.{put_mid}
+use Rattle.lists.proofs.TableLaws.{filled-zeros}
+use Rattle.rule.specs.Layout.{codes_at, terms_at}
+use Rattle.opening.proofs.OpenLaws.{sized, all-written}
+use Rattle.opening.proofs.Given.write.Goals as goal
+
+pub returns : goal.returns
+returns c =
+    let s = c.args.self.now in
+    let x₀ : List ℕ = sized c.fill.new.self s.participants s.issues in
+    let with_codes : List ℕ → List ℕ = put_mid codes_at (codes_at + length s.codes.now - codes_at) x₀ in
+    let x₁ : List ℕ = with_codes c.copy_from_slice.new.self in
+    let with_terms : List ℕ → List ℕ = put_mid terms_at (terms_at + length s.terms.now - terms_at) x₁ in
+    all-written _ _ _ _ _ _ _ s.lengths c.requires _ (filled-zeros _ (c.fill.ensures.after (λ y e. e)))
+    x₁ (ap with_codes c.copy_from_slice.ensures.after)
+    (with_terms c.copy_from_slice-2.new.self) (ap with_terms c.copy_from_slice-2.ensures.after)
+    _ c.copy_rows.ensures _ c.write_marks.ensures

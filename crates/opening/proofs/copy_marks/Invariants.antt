@@ -1,6 +1,0 @@
--- `opening::copy_marks` meets its contract: the marks of the baskets below k are copied. Assumes nothing.
-use Rattle.opening.proofs.OpenLaws.{Marked}
-use Rattle.opening.proofs.copy_marks.Given as goal
-
-abbrev pub invariant-loop-k : goal.invariant-loop-k
-invariant-loop-k l = Marked l.initial.book l.participants l.pairs l.book l.k
