@@ -5,10 +5,11 @@ use mathlib.Core.List.{List}
 use Prim.Native.Nat.{ℕ, ◌+◌, ◌-◌, ◌*◌, ◌≤◌, ◌<◌}
 use native.Mathlib.Omega.{arith}
 use lib.ListN.{length, get_or, take, drop}
+use lib.Seq.{take_all}
 use Rattle.lists.specs.Tables.{table}
 use Rattle.lists.specs.Parts.{block}
 use Rattle.lists.proofs.TableLaws.{get_or-table}
-use Rattle.lists.proofs.PartLaws.{block-get, part-is, part_length, table-agree}
+use Rattle.lists.proofs.PartLaws.{block-get, length-block, part-is, part_length, table-agree}
 use Rattle.rule.specs.Filling.{Filled, filled, forced_issue}
 use Rattle.rule.specs.Layout.{terms_at, notices_at}
 use Rattle.value.proofs.TermLaws.{terms-length, terms-priced}
@@ -96,14 +97,20 @@ module _ {b : List ℕ} {s : Stock} {e : Entry} {usable : List ℕ} {all : ℕ} 
   abbrev from : ℕ
   from = notices_at + 32 * e.deliverer
 
+  -- the deliverer's notified lots
+  notified-are : take (length usable) (take (from + n - from) (drop from b)) ≡ block b from n
+  notified-are =
+      let size : length (block b from n) ≡ n = length-block b from n (omega (arith, h.sized.cells, h.sized.issues, h.deliverer)) in
+      ap₂ (λ (q : ℕ) (l : List ℕ). take q l) h.wide (part-is b from n) ∙ take_all n (block b from n) (omega (arith, size))
+
   pub fill_is : (k : ℕ) {listed : List ℕ} {f : Filling} {lots' : List ℕ} → listed ≡ order
       → FilledAs (filled (get_or b 2 0) e.preferential (terms_in (length usable) (block b terms_at 192)) usable listed
-      (forced_issue k (terms_in (length usable) (block b terms_at 192)) (take (from + n - from) (drop from b))) e.amount.0) f lots'
+      (forced_issue k (terms_in (length usable) (block b terms_at 192)) (take (length usable) (take (from + n - from) (drop from b)))) e.amount.0) f lots'
       → FilledAs (filled_in b k e usable order) f lots'
   unfolding filled_in
   fill_is k {listed} {f} {lots'} o q =
       subst (λ (x : Filled). FilledAs x f lots')
       (ap₂ (λ (i : ℕ) (l : List ℕ). filled (get_or b 2 0) e.preferential (terms_in i (block b terms_at 192)) usable listed (forced_issue k (terms_in i (block b terms_at 192)) l) e.amount.0)
-      h.wide (part-is b from n)
+      h.wide notified-are
       ∙ ap (λ (l : List ℕ). filled (get_or b 2 0) e.preferential (book_terms b) usable l (forced_issue k (book_terms b) (block b from n)) e.amount.0) o)
       q
