@@ -117,12 +117,15 @@ impl Day {
         }
         let draw = numbers(rt.alloc(), words)?;
         let codes = Codes::of_book(rt.alloc(), &self.book)?;
+        // the call writes into memory that it is lent, and says how much of it counts
         let mut matches = [0u64; 539];
         let mut lines = [0u64; 7392];
         let counts = allocation::run(&mut self.book, draw.as_slice(), &mut matches, &mut lines)?;
         println!(rt; "ran {} {}", counts.matches, counts.lines)?;
-        listing::matches(rt, &codes, &matches, counts.matches)?;
-        listing::lines(rt, &codes, &lines, counts.lines)?;
+        let matches = matches.as_chunks().0;
+        let lines = lines.as_chunks().0;
+        listing::matches(rt, &codes, &matches[..matches.len().min(counts.matches)])?;
+        listing::lines(rt, &codes, &lines[..lines.len().min(counts.lines)])?;
         Ok(())
     }
 
@@ -130,6 +133,7 @@ impl Day {
     fn close(&self, rt: &HostRuntime, words: &[&[u8]]) -> Result<(), Failure> {
         alone(words)?;
         let codes = Codes::of_book(rt.alloc(), &self.book)?;
+        // the call writes into memory that it is lent
         let mut receipts = [0u64; RECEIPTS];
         let mut pairs = [0u64; PAIRS];
         allocation::close(&self.book, &mut receipts, &mut pairs)?;

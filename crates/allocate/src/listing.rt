@@ -7,9 +7,8 @@ use layout::{BASKETS, MOST_PARTICIPANTS, POSITIONS};
 use std::io;
 
 // "match NUMBER BASKET DELIVERER RECEIVER MATCHED COVERED FORCED-CODE FORCED-LOTS (- 0 where nothing was forced)"
-pub fn matches(rt: &HostRuntime, codes: &Codes, cells: &[u64], count: usize) -> io::Result<()> {
-    let rows = cells.as_chunks::<7>().0;
-    for (n, row) in rows.iter().take(count).enumerate() {
+pub fn matches(rt: &HostRuntime, codes: &Codes, rows: &[[u64; 7]]) -> io::Result<()> {
+    for (n, row) in rows.iter().enumerate() {
         let [basket, deliverer, receiver, matched, covered, forced, lots] = *row;
         let basket = Basket(basket);
         let code = if lots == 0 {
@@ -25,9 +24,8 @@ pub fn matches(rt: &HostRuntime, codes: &Codes, cells: &[u64], count: usize) -> 
 }
 
 // "line MATCH CODE LOTS"
-pub fn lines(rt: &HostRuntime, codes: &Codes, cells: &[u64], count: usize) -> io::Result<()> {
-    let rows = cells.as_chunks::<3>().0;
-    for row in rows.iter().take(count) {
+pub fn lines(rt: &HostRuntime, codes: &Codes, rows: &[[u64; 3]]) -> io::Result<()> {
+    for row in rows {
         let [number, issue, lots] = *row;
         println!(rt; "line {number} {} {lots}", codes.text(issue as usize))?;
     }

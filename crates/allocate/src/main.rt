@@ -22,7 +22,8 @@ type Book = [u64; layout::LENGTH];
 // the bytes that a line has room for
 const ROOM: usize = 4096;
 
-// The next line of a source, without its end; what could be read of it, where a read fails. Says whether more may come.
+// The next line of a source, without its end; what could be read of it, where a read fails. A yes or no, whether more may come: the
+// line is there with either.
 fn read_line<S: BufRead>(source: &mut S, line: &mut Vec<u8>) -> bool {
     line.clear();
     let read = source

@@ -54,7 +54,7 @@ module _ {terms notified usable used : List ℕ} {amount : ℕ} (right : Right t
     issues_most = right.most;
     cells = right.termed.cells;
     rates_there = omega (arith, there);
-    notified_there = right.notified_there;
+    notified_there = omega (arith, right.notified_there);
     rated = r;
     usable_most = right.usable_most;
     named = o;
@@ -66,13 +66,15 @@ worth-of e w = rw e at w
 
 -- ---- what usable lots are worth, issue by issue
 
-module _ {usable rates : List ℕ} (p : Stocked usable rates) {i : ℕ} (h : i < length usable) where
-  pub value-asks : {sum : ℕ} → Summed (length usable) usable rates sum i → Summable (get_or rates i 0) (get_or usable i 0) sum
-  value-asks s = summable p.priced h p.issues_most (p.usable_most i h) s
+module _ {usable rates : List ℕ} (p : Stocked usable rates) {i w lots : ℕ} (h : i < length usable) (v : w ≡ get_or rates i 0) (q : lots ≡ get_or usable i 0) where
+  pub value-asks : {sum : ℕ} → Summed (length usable) usable rates sum i → Summable w lots sum
+  value-asks s = rw (v, q) (summable p.priced h p.issues_most (p.usable_most i h) s)
 
-  pub summed-more : {sum next : ℕ} → ((t : Terms) → get_or rates i 0 ≡ rate t → next ≡ sum + value t (get_or usable i 0))
+  pub summed-more : {sum next : ℕ} → ((t : Terms) → w ≡ rate t → next ≡ sum + value t lots)
       → Summed (length usable) usable rates sum i → Summed (length usable) usable rates next (i + 1)
-  summed-more e s = sum_more p.priced h h (value-asks s) e s
+  summed-more {sum} {next} e s =
+      sum_more p.priced h h (summable p.priced h p.issues_most (p.usable_most i h) s)
+      (λ t r. e t (v ∙ r) ∙ ap (λ (n : ℕ). sum + value t n) q) s
 
 pub worth_all : {usable rates : List ℕ} {sum i : ℕ} → Summed (length usable) usable rates sum i → length usable ≤ i → Worth usable rates sum
 worth_all {usable} s h = record { summed = λ ts e r. sum-all s h ts e r ∙ ap (worth ts) (take_all (length usable) usable (le_refl (length usable))) }

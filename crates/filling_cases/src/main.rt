@@ -43,7 +43,7 @@ struct Case<'a> {
 }
 
 impl Case<'_> {
-    // The issues as the match goes through them, worked out from the notified lots, as a run does.
+    // The issues as the match goes through them, worked out from the notified lots, as a run does. They are ranked in memory that is lent.
     fn order(&self) -> Order
         ensures { Named (length self.now.usable.items) result.items }
     {
@@ -51,15 +51,13 @@ impl Case<'_> {
         let mut places = [0u64; 32];
         let ranks = &mut places[..issues];
         ranking::rank(self.notified.as_slice(), &mut *ranks);
-        let mut usable = [0u64; 32];
-        usable[..issues].copy_from_slice(self.usable.as_slice());
         let mut order = Order::new();
         ordering::issue_order(
             self.preferential,
             self.notified.as_slice(),
             self.used.as_slice(),
             ranks,
-            &usable,
+            self.usable.as_slice(),
             &mut order,
         );
         order
@@ -92,8 +90,8 @@ fn worth(usable: &[u64], rates: &[u64]) -> Yen
     ensures { Worth usable.now rates.now result.0 }
 {
     let mut all = Yen(0);
-    for (i, lots) in usable.iter().enumerate() {
-        all = Rate(rates[i]).add_value(all, Lots(*lots));
+    for (lots, rate) in usable.iter().zip(rates) {
+        all = Rate(*rate).add_value(all, Lots(*lots));
     }
     all
 }
@@ -119,6 +117,7 @@ fn number(word: &[u8]) -> Option<u64> {
     words::number(word).filter(|number| *number < 1_000_000_000_000_000_000)
 }
 
+// Those of a part of a line. Not one with the numbers of a day's line: those say why they cannot be read.
 fn numbers(alloc: Global, part: &[u8]) -> Option<Vec<u64>> {
     let mut numbers = Vec::new(alloc);
     for word in words::split(alloc, part, b" ").ok()?.iter() {
@@ -127,7 +126,7 @@ fn numbers(alloc: Global, part: &[u8]) -> Option<Vec<u64>> {
     Some(numbers)
 }
 
-// Are the numbers that the value of an issue is made of in their ranges?
+// Are the numbers that the value of an issue is made of in their ranges? A yes or no, since `all` asks it of each.
 fn fits(terms: &[u64; 6]) -> bool
     ensures { result ≡ true → Fit terms.now }
 {

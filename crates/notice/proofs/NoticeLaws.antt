@@ -75,18 +75,6 @@ module _ (named : List ℕ) where
   unfolding distinct
   marked_all {j = j} l h = through-is _ (length named) j h.apart l h.here
 
--- ---- the next of a list
-
-module _ (xs : List ℕ) (j x : ℕ) (ys : List ℕ) (e : x ∷ ys ≡ drop j xs) where
-  pub next-long : j < length xs
-  next-long = omega (arith, ap length e, length-drop j xs)
-
-  pub next-is : x ≡ get_or xs j 0
-  next-is = let z : j + 0 ≡ j = omega arith in ap (λ (l : List ℕ). get_or l 0 0) e ∙ get_or-drop j xs 0 0 ∙ ap (λ (i : ℕ). get_or xs i 0) z
-
-  pub next-rest : ys ≡ drop (j + 1) xs
-  next-rest = ap (drop 1) e ∙ drop-drop 1 j xs
-
 -- ---- the entries below j are in the row
 
 abbrev entry : List ℕ → List ℕ → List ℕ → ℕ → List ℕ

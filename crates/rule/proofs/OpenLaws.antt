@@ -1,5 +1,5 @@
 -- Laws of an opening: an accepted one gives a sound day, and the book holds it. Assumes nothing.
-use mathlib.Core.Path.{◌≡◌, sym, ap, ap₂, ◌∙◌}
+use mathlib.Core.Path.{◌≡◌, sym, ap, ap₂, ◌∙◌, subst}
 use mathlib.Core.Logic.{inl, inr}
 use Prim.Native.Nat.{ℕ, ◌+◌, ◌*◌, ◌≤◌, ◌<◌}
 use native.Mathlib.Nat.{mul_comm, mul-le-mul_left, mul-suc, le_refl}
@@ -84,7 +84,7 @@ module _ (n m : ℕ) (codes terms receipts pairs : List ℕ) (h : Openable n m c
     codes = grid-shape codes 0 12 m 12 (omega arith) (omega (arith, h.codes_size));
     terms = length-map (grid terms 0 6 m 6) terms_of ∙ length-table m _;
     receipts = grid-shape receipts 0 m n m (le_refl m) (omega (arith, h.receipts_size, mul_comm n m));
-    pairs = λ k l. rw (get_or-table 7 (λ k. grid pairs (n * n * k) n n n) k [] l)
+    pairs = λ k l. subst (λ (rows : List (List ℕ)). Shape rows n n) (sym (get_or-table 7 (λ k. grid pairs (n * n * k) n n n) k [] l))
         (grid-shape pairs (n * n * k) n n n (le_refl n) (omega (arith, h.pairs_size, mul-le-mul_left (n * n) l, mul-suc (n * n) k, mul_comm (n * n) 7)));
     baskets = length-table 7 (λ k. grid pairs (n * n * k) n n n);
     owed = zero-shape 7 n;

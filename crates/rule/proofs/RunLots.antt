@@ -53,8 +53,9 @@ usable-left : (y : Day) (k : ℕ) (before : List (List ℕ)) (done : List Alloca
 unfolding usable
 usable-left y k before done d i l =
     let left : ℕ → ℕ = λ i. allocable_of y d i - (cell before d i + used done d i) in
-    rw (get_or-table {A = ℕ} y.given.issues (λ i. pick (within k (get_or y.given.terms i no_terms)) (left i) 0) i 0 l)
-    (pick-elim (λ (n : ℕ). n ≤ left i) (within k (get_or y.given.terms i no_terms)) (left i) 0 (le_refl _) zero-le)
+    let is : get_or (usable y k before done d) i 0 ≡ pick (within k (get_or y.given.terms i no_terms)) (left i) 0 =
+    get_or-table {A = ℕ} y.given.issues (λ i. pick (within k (get_or y.given.terms i no_terms)) (left i) 0) i 0 l in
+    subst (λ (n : ℕ). n ≤ left i) (sym is) (pick-elim (λ (n : ℕ). n ≤ left i) (within k (get_or y.given.terms i no_terms)) (left i) 0 (le_refl _) zero-le)
 
 module _ (y : Day) (draw : List ℕ) (h : Runnable y draw) where
   abbrev n : ℕ

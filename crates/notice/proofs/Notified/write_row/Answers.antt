@@ -2,8 +2,9 @@ use Rattle.std.proofs.Common.{◌≡◌, ℕ, List, ◌+◌, set, length, length
 use Rattle.std.specs.Iterator.Adapters.{zip_first, zip_second}
 use Rattle.std.specs.Slice.Iter.{iter_rest}
 use Rattle.std.proofs.lemmas.Iterator.{empty_from_Zip}
-use Rattle.notice.proofs.NoticeLaws.{Entered, entered-none, entered-more, entered_all, next-long, next-is, next-rest}
+use Rattle.lists.proofs.RestLaws.{next-long, next-is, next-rest}
 use Rattle.lists.proofs.TableLaws.{filled-zeros}
+use Rattle.notice.proofs.NoticeLaws.{Entered, entered-none, entered-more, entered_all}
 use Rattle.notice.proofs.Notified.write_row.Goals as goal
 
 pub loop-issue-init : goal.loop-issue-init
