@@ -1,42 +1,47 @@
 // Which kinds a basket takes, and how many lots may be used.
 #![tactic(auto)]
 
-ghost use Rattle.std.specs.Prelude.{◌≡◌, ℕ, ◌+◌, ◌≤◌, ◌&&◌, length, get_or};
+ghost use Rattle.std.specs.Prelude.{◌≡◌, ℕ, ◌&&◌};
 ghost use Rattle.rule.specs.Value.{Terms};
 ghost use Rattle.rule.specs.Baskets.{within};
+ghost use Rattle.rule.specs.Day.{terms_of};
 ghost use Rattle.baskets.specs.Kinds.{KindsOf};
 ghost use Rattle.rule.specs.Allocable.{unmarked, allocable as allocable_of};
 
 use rule::Lots;
 
-// "The composition of the seven baskets is fixed": a row for each basket, A to G, and in it 1 for each kind that it takes. 1 and 0
-// keep the columns of the table in line, which true and false would not.
-const COMPOSITION: [[u8; 7]; 7] = [
-    [1, 0, 0, 0, 0, 0, 0],
-    [1, 1, 0, 0, 0, 0, 0],
-    [1, 1, 1, 1, 0, 0, 0],
-    [1, 1, 1, 1, 1, 0, 0],
-    [1, 1, 1, 1, 1, 1, 0],
-    [1, 1, 1, 1, 1, 0, 1],
-    [1, 1, 1, 1, 1, 1, 1],
+// Yes and no, in a letter each: so the columns of the table stand in line.
+const Y: bool = true;
+
+const N: bool = false;
+
+// "The composition of the seven baskets is fixed": a row for each basket, A to G, which says of each kind whether it is taken.
+const COMPOSITION: [[bool; 7]; 7] = [
+    [Y, N, N, N, N, N, N],
+    [Y, Y, N, N, N, N, N],
+    [Y, Y, Y, Y, N, N, N],
+    [Y, Y, Y, Y, Y, N, N],
+    [Y, Y, Y, Y, Y, Y, N],
+    [Y, Y, Y, Y, Y, N, Y],
+    [Y, Y, Y, Y, Y, Y, Y],
 ];
 
 // The kinds that a basket takes: its row of the table. There is no basket beyond G, and it takes none.
-pub fn kinds_of(basket: u64) -> [u8; 7]
+pub fn kinds_of(basket: u64) -> [bool; 7]
     ensures { KindsOf basket result }
 {
     if basket > 6 {
-        return [0; 7];
+        return [N; 7];
     }
     COMPOSITION[basket as usize]
 }
 
-// Whether the kind is one of them.
-pub fn is_among(kinds: &[u8; 7], kind: u64) -> bool
+// Whether the kind is one of them. A kind stays a number, as it stands in the book: a rule of the project.
+pub fn is_among(kinds: &[bool; 7], kind: u64) -> bool
     ensures { (k : ℕ) → (t : Terms) → KindsOf k kinds.now → t.kind ≡ kind → result ≡ within k t }
 {
     match kind {
-        0..=6 => kinds[kind as usize] == 1,
+        0..=6 => kinds[kind as usize],
         _ => false,
     }
 }
@@ -49,16 +54,16 @@ pub fn is_unmarked(redeemed: u64, interest: u64) -> bool
     redeemed == 0 && interest == 0
 }
 
-// Whether the issue whose six terms stand there is of one of a basket's kinds, and unmarked. A loop over issues reads the
-// basket's kinds once.
-pub fn is_eligible(terms: &[u64], at: usize, kinds: &[u8; 7]) -> bool
-    requires { at + 6 ≤ length terms.now }
-    ensures { (k : ℕ) → (t : Terms) → KindsOf k kinds.now → t.kind ≡ get_or terms.now at 0 → t.redeemed ≡ get_or terms.now (at + 4) 0 → t.interest ≡ get_or terms.now (at + 5) 0 → result ≡ (within k t && unmarked t) }
+// Whether an issue of these terms is of one of a basket's kinds, and unmarked. A loop over issues reads the basket's kinds once.
+pub fn is_eligible(terms: &[u64; 6], kinds: &[bool; 7]) -> bool
+    ensures { (k : ℕ) → KindsOf k kinds.now → result ≡ (within k (terms_of terms.now) && unmarked (terms_of terms.now)) }
 {
-    is_among(kinds, terms[at]) && is_unmarked(terms[at + 4], terms[at + 5])
+    let [kind, _, _, _, redeemed, interest] = *terms;
+    is_among(kinds, kind) && is_unmarked(redeemed, interest)
 }
 
-// "The window decides the allocable quantity": run 1 has one rule, "runs 2 and 3" another.
+// "The window decides the allocable quantity": run 1 has one rule, "runs 2 and 3" another. The runs done are a number: a rule of
+// the project.
 #[tactic(auto, using(crate::proofs::AllocableLaws::by_window))]
 pub fn allocable(runs: u64, redeemed: u64, interest: u64, notified: Lots, scheduled: Lots) -> Lots
     ensures { (t : Terms) → t.redeemed ≡ redeemed → t.interest ≡ interest → result.0 ≡ allocable_of runs t notified.0 scheduled.0 }
