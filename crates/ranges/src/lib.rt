@@ -97,18 +97,6 @@ fn bits_of(marks: &[u64]) -> u64
     joined(marks, |mark| mark)
 }
 
-// The same of a row, whose length the compiler does not know: 4 to 12 marks are taken by fours, the last of which may overlap.
-fn bits_of_row(marks: &[u64]) -> u64
-    ensures { nat_le result 1 ≡ all_pass (λ mark. nat_le mark 1) marks.now }
-{
-    let m = marks.len();
-    match m {
-        4..=8 => bits_of(&marks[..4]) | bits_of(&marks[m - 4..]),
-        9..=12 => bits_of(&marks[..4]) | bits_of(&marks[4..8]) | bits_of(&marks[m - 4..]),
-        _ => bits_of(marks),
-    }
-}
-
 // Pair marks of one basket: n rows of n, a stride apart.
 #[derive(Drop)]
 struct Square<'a> {
@@ -128,7 +116,7 @@ impl<'a> Square<'a> {
         }
         let mut bits = 0;
         for row in self.marks.chunks_exact(self.stride) {
-            bits |= bits_of_row(&row[..self.n]);
+            bits |= bits_of(&row[..self.n]);
         }
         bits <= 1
     }

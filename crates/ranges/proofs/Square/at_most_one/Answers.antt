@@ -21,8 +21,8 @@ loop-row-init c = (
   gathered_none _ _,
 )
 
-pub slice_bounds-bits_of_row-end : goal.slice_bounds-bits_of_row-end
-slice_bounds-bits_of_row-end c =
+pub slice_bounds-bits_of-end : goal.slice_bounds-bits_of-end
+slice_bounds-bits_of-end c =
     let s = c.args.self.now in
     let next = MatchOption-at_some _ _ _ c.in-Some.is c.next.ensures.steps.1 in
     sym (length-take-le s.n c.in-Some.row.now (omega (arith, next.1, c.loop-row.invariant.2, s.rows.apart.wide)))
@@ -40,8 +40,8 @@ loop-row-preserved c =
       p + 1,
       left-more b s.stride s.n s.rows.apart.some s.rows.size _ p w.1 c.in-Some.row.now _ next.0 long,
       c.next.ensures.steps.0 ∙ w.2,
-      gathered-more w.3 (row-left b s.stride s.n s.rows.apart.some s.rows.size _ p w.1 c.in-Some.row.now _ next.0 long) (bits_below c.loop-row.bits c.bits_of_row-bits.result 1
-          ∙ ap (λ (r : Bool). leb c.loop-row.bits 1 && r) (c.bits_of_row-bits.ensures
+      gathered-more w.3 (row-left b s.stride s.n s.rows.apart.some s.rows.size _ p w.1 c.in-Some.row.now _ next.0 long) (bits_below c.loop-row.bits c.bits_of-bits.result 1
+          ∙ ap (λ (r : Bool). leb c.loop-row.bits 1 && r) (c.bits_of-bits.ensures
           ∙ ap (λ (x : List ℕ). all_pass low (take s.n x)) (row-is b s.stride s.n s.rows.apart.some s.rows.size _ p w.1 c.in-Some.row.now _ next.0 long)
           ∙ front-passes s.stride s.n s.rows.apart.some s.rows.apart.wide low b p room
           ∙ ap (λ (j : ℕ). row_passes low b j s.n) e)),
