@@ -92,6 +92,7 @@ fn fifth_largest(issues: &[[u64; 6]], kinds: &[bool; 7]) -> usize
 {
     let mut ten = None;
     let mut any = None;
+    // By number, which is the answer: `enumerate().rev()` was tried, and its proof needs an invariant more.
     for i in (0..issues.len()).rev() {
         if baskets::is_eligible(&issues[i], kinds) {
             let [kind, ..] = issues[i];
