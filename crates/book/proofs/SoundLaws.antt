@@ -1,10 +1,11 @@
 -- Soundness as tests on cells: signed cells, baskets, and the whole. Assumes nothing.
-use Rattle.std.proofs.Common.{◌≡◌, ℕ, zero, suc, ◌+◌, ◌-◌, ◌*◌, ◌/◌, ◌%◌, ◌<◌, ◌≤◌, Bool, true, false, not, ◌&&◌, ◌||◌, eqb, leb, List, [], ◌∷◌, length, get_or, take, drop, sym, refl, ap, ◌∙◌, le_refl, add-one, arith, take_all, take-suc, le-ltb, lt-ltb, le-leb, leb-true}
+use Rattle.std.proofs.Common.{◌≡◌, ℕ, zero, suc, ◌+◌, ◌-◌, ◌*◌, ◌/◌, ◌%◌, ◌<◌, ◌≤◌, Bool, true, false, not, ◌&&◌, ◌||◌, eqb, leb, List, [], ◌∷◌, length, get_or, take, drop, sym, refl, ap, subst, ◌∙◌, le_refl, add-one, arith, take_all, take-suc, le-ltb, lt-ltb, le-leb, leb-true}
 use native.Mathlib.Decide.{dec_le, dec_lt}
 use mathlib.Core.Bool.{and_assoc}
 use lib.ListN.{length-map, get_or-map}
 use borrow.Author.Tests.{lt-leb, not-true}
 use Rattle.std.specs.Bool.{MatchBool}
+use Rattle.std.specs.List.{AllWithin, HoldsAt}
 use Rattle.lists.specs.Tests.{all_below}
 use Rattle.lists.specs.Tables.{from}
 use Rattle.lists.specs.Folds.{total, keep}
@@ -12,7 +13,7 @@ use Rattle.lists.specs.Parts.{block, grid}
 use Rattle.lists.proofs.TestLaws.{both_ways, pick-cases, all_none, all_more, all_of, all-stop, all-through, all-at, and_left, and_right, row-stop}
 use Rattle.lists.proofs.FoldLaws.{total-append}
 use Rattle.lists.proofs.TableLaws.{length-table, get_or-table}
-use Rattle.lists.proofs.PartLaws.{part-is, part_length, block-get}
+use Rattle.lists.proofs.PartLaws.{part-is, part_length}
 use Rattle.rule.specs.Value.{Terms, no_terms}
 use Rattle.rule.specs.Baskets.{within}
 use Rattle.rule.specs.Allocable.{unmarked}
@@ -21,7 +22,8 @@ use Rattle.rule.specs.Day.{terms_of}
 use Rattle.rule.specs.Sound.{position_limit, tradable}
 use Rattle.rule.specs.Layout.{terms_at, plus, minus}
 use Rattle.ranges.specs.Ranges.{all_pass, row_passes}
-use Rattle.ranges.proofs.RangeLaws.{part-passes, grid-there}
+use Rattle.ranges.proofs.CutLaws.{cut, cut-count, cut-get}
+use Rattle.ranges.proofs.RangeLaws.{part-passes, grid-there, block-within}
 use Rattle.book.specs.Sized.{book_terms, eligible_at, is_within, basket_fits}
 
 -- ---- a signed cell
@@ -65,6 +67,9 @@ module _ (f : ℕ → Bool) where
   kept-none k zero h = refl
   kept-none k (suc n) h = rw (h k (omega arith)) (kept-none (suc k) n (λ i l. h i (omega arith)))
 
+abbrev pub is_eligible : ℕ → List ℕ → Bool
+is_eligible k x = within k (terms_of x) && unmarked (terms_of x)
+
 module _ (b : List ℕ) (k : ℕ) where
   terms-count : length (book_terms b) ≡ get_or b 1 0
   terms-count = length-map (grid b terms_at 6 (get_or b 1 0) 6) terms_of ∙ length-table (get_or b 1 0) (λ p. block b (terms_at + 6 * p) 6)
@@ -91,18 +96,32 @@ module _ (b : List ℕ) (k : ℕ) where
       rw (kept-none there 0 (length (book_terms b)) (λ i l. let l' : i < get_or b 1 0 = omega (arith, terms-count) in
       there-is i l' ∙ not-true _ (all-at (λ i. not (eligible_at b k (terms_at + 6 * i))) (get_or b 1 0) h i l')))
 
-  pub tradable-said : (r : Bool) → MatchBool r ((i : ℕ) × (i < get_or b 1 0) × (eligible_at b k (terms_at + 6 * i) ≡ true)) ((i : ℕ) → i < get_or b 1 0 → eligible_at b k (terms_at + 6 * i) ≡ false) → r ≡ tradable k (book_terms b)
-  tradable-said true (i, l, e) = tradable-some refl l e
-  tradable-said false h = tradable-none (all_of (λ i. not (eligible_at b k (terms_at + 6 * i))) (get_or b 1 0) (λ i l. is-not (h i l)))
+  -- the terms as slices of six, of which any is eligible or none
+  module _ (part : List ℕ) (room : terms_at + 6 * get_or b 1 0 ≤ length b) (e : part ≡ take (terms_at + 6 * get_or b 1 0 - terms_at) (drop terms_at b)) where
+    part-count : length (cut 6 part) ≡ get_or b 1 0
+    part-count = cut-count 6 part ∙ (let l : length part ≡ 6 * get_or b 1 0 = ap length e ∙ part_length b terms_at (6 * get_or b 1 0) room in omega arith)
 
-first : (b : List ℕ) (o : ℕ) → get_or (block b o 6) 0 0 ≡ get_or b o 0
-first b o = block-get b o 6 0 (omega arith) ∙ ap (λ (j : ℕ). get_or b j 0) (omega arith)
+    part-at : (i : ℕ) → i < get_or b 1 0 → get_or (cut 6 part) i [] ≡ block b (terms_at + 6 * i) 6
+    part-at i l =
+        cut-get 6 part i (omega (arith, part-count, cut-count 6 part))
+        ∙ ap (λ (x : List ℕ). block x (6 * i) 6) (e ∙ part-is b terms_at (6 * get_or b 1 0))
+        ∙ block-within b terms_at (6 * get_or b 1 0) (6 * i) 6 (omega arith)
 
--- what an issue's cells say of its terms
-pub eligible-is : (b : List ℕ) (k o : ℕ) {r : Bool}
-    → ((t : Terms) → t.kind ≡ get_or b o 0 → t.redeemed ≡ get_or b (o + 4) 0 → t.interest ≡ get_or b (o + 5) 0 → r ≡ (within k t && unmarked t)) → r ≡ eligible_at b k o
-unfolding eligible_at
-eligible-is b k o h = h (terms_of (block b o 6)) (first b o) (block-get b o 6 4 (omega arith)) (block-get b o 6 5 (omega arith))
+    eligible-there : (i : ℕ) → i < get_or b 1 0 → is_eligible k (get_or (cut 6 part) i []) ≡ eligible_at b k (terms_at + 6 * i)
+    unfolding eligible_at
+    eligible-there i l = ap (is_eligible k) (part-at i l)
+
+    said : (r : Bool) → MatchBool r ((i : ℕ) × (i < length (cut 6 part)) × HoldsAt (λ x. is_eligible k x ≡ true) (cut 6 part) i) (AllWithin (λ x. is_eligible k x ≡ false) (cut 6 part) 0 (length (cut 6 part)))
+        → r ≡ tradable k (book_terms b)
+    said true (i, l, h) = let l' : i < get_or b 1 0 = omega (arith, part-count) in tradable-some refl l' (sym (eligible-there i l') ∙ h [])
+    said false h =
+        tradable-none (all_of (λ i. not (eligible_at b k (terms_at + 6 * i))) (get_or b 1 0)
+        (λ i l. is-not (sym (eligible-there i l) ∙ h i [] (omega arith) (omega (arith, part-count)))))
+
+    pub tradable-said : (r : Bool) (xs : List (List ℕ)) → xs ≡ cut 6 part
+        → MatchBool r ((i : ℕ) × (i < length xs) × HoldsAt (λ x. is_eligible k x ≡ true) xs i) (AllWithin (λ x. is_eligible k x ≡ false) xs 0 (length xs)) → r ≡ tradable k (book_terms b)
+    tradable-said r xs f h =
+        said r (subst (λ (ys : List (List ℕ)). MatchBool r ((i : ℕ) × (i < length ys) × HoldsAt (λ x. is_eligible k x ≡ true) ys i) (AllWithin (λ x. is_eligible k x ≡ false) ys 0 (length ys))) f h)
 
 -- ---- a basket's positions
 

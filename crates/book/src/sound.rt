@@ -43,8 +43,9 @@ pub fn tradable(book: &[u64], basket: usize) -> bool
     ensures { result ≡ tradable_of basket (book_terms book.now) }
 {
     let issues = book[layout::ISSUES] as usize;
+    let (terms, _) = book[layout::TERMS..layout::TERMS + layout::TERM * issues].as_chunks();
     let kinds = baskets::kinds_of(basket as u64);
-    (0..issues).any(|i| baskets::is_eligible(book, layout::TERMS + layout::TERM * i, &kinds))
+    terms.iter().any(|terms| baskets::is_eligible(terms, &kinds))
 }
 
 // A limit of signed cells, in yen or in lots.

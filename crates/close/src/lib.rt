@@ -36,16 +36,13 @@ fn write_pairs(book: &[u64], pairs: &mut [u64])
     let participants = book[layout::PARTICIPANTS] as usize;
     let square = participants * participants;
     for k in 0..layout::BASKETS {
-        rows::copy_rows(
-            &mut *pairs,
-            square * k,
-            participants,
-            participants,
-            participants,
-            book,
-            layout::TODAY + layout::SQUARE * k,
-            layout::MOST_PARTICIPANTS,
-        );
+        let marks = rows::Rows {
+            cells: &book[layout::TODAY + layout::SQUARE * k..],
+            apart: layout::MOST_PARTICIPANTS,
+            n: participants,
+            m: participants,
+        };
+        marks.copy_to(&mut pairs[square * k..], participants);
     }
 }
 

@@ -1,7 +1,7 @@
 // Opening a day: "sizes first (participants, issues), then two parallel arrays, codes and terms .. scheduled receipts .. and pair marks".
 #![tactic(auto)]
 
-ghost use Rattle.std.specs.Prelude.{◌≡◌, ◌≤◌, length};
+ghost use Rattle.std.specs.Prelude.{◌≡◌, ◌≤◌, [], length};
 ghost use Rattle.rule.specs.Layout.{book_length, open_of};
 ghost use Rattle.rule.specs.Answers.{told};
 ghost use Rattle.opening.specs.Opened.{Lengths, marks_written, open_written, open_lengths};
@@ -13,15 +13,13 @@ use rule::Refusal;
 // The codes of at most 32 issues, a cell for each byte.
 type Codes = ArrayVec<u64, 384>;
 
-fn widen(codes: &[u8]) -> Codes
-    requires { length codes.now ≤ 384 }
-    ensures { result.items ≡ codes.now }
+fn widen(codes: &[u8], cells: &mut Codes)
+    requires { (cells.old.items ≡ []) × (length codes.now ≤ 384) }
+    ensures { cells.new.items ≡ codes.now }
 {
-    let mut cells = Codes::new();
     for byte in codes {
         cells.push(u64::from(*byte));
     }
-    cells
 }
 
 // What is given to an opening, in arrays of the lengths that the sizes ask for.
@@ -44,16 +42,14 @@ impl<'a> Given<'a> {
     {
         let square = self.participants * self.participants;
         for k in 0..layout::BASKETS {
-            rows::copy_rows(
-                &mut *book,
-                layout::PAIRS + layout::SQUARE * k,
-                layout::MOST_PARTICIPANTS,
-                self.participants,
-                self.participants,
-                self.pairs,
-                square * k,
-                self.participants,
-            );
+            let marks = rows::Rows {
+                cells: &self.pairs[square * k..],
+                apart: self.participants,
+                n: self.participants,
+                m: self.participants,
+            };
+            let at = layout::PAIRS + layout::SQUARE * k;
+            marks.copy_to(&mut book[at..], layout::MOST_PARTICIPANTS);
         }
     }
 
@@ -67,16 +63,13 @@ impl<'a> Given<'a> {
         book[layout::ISSUES] = self.issues as u64;
         book[layout::CODES..layout::CODES + self.codes.len()].copy_from_slice(self.codes);
         book[layout::TERMS..layout::TERMS + self.terms.len()].copy_from_slice(self.terms);
-        rows::copy_rows(
-            &mut *book,
-            layout::RECEIPTS,
-            layout::MOST_ISSUES,
-            self.participants,
-            self.issues,
-            self.receipts,
-            0,
-            self.issues,
-        );
+        let receipts = rows::Rows {
+            cells: self.receipts,
+            apart: self.issues,
+            n: self.participants,
+            m: self.issues,
+        };
+        receipts.copy_to(&mut book[layout::RECEIPTS..], layout::MOST_ISSUES);
         self.write_marks(book);
     }
 
@@ -138,11 +131,12 @@ pub fn open(
     if book.len() != layout::LENGTH {
         return Err(Refusal::WrongSize);
     }
-    let codes = widen(codes);
+    let mut cells = Codes::new();
+    widen(codes, &mut cells);
     let given = Given {
         participants: n,
         issues: m,
-        codes: codes.as_slice(),
+        codes: cells.as_slice(),
         terms,
         receipts,
         pairs,

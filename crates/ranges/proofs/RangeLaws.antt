@@ -93,7 +93,7 @@ square-joined b stride n bound e size =
 -- ---- terms
 
 -- a part of a part
-block-within : (b : List ℕ) (at n o m : ℕ) → o + m ≤ n → block (block b at n) o m ≡ block b (at + o) m
+pub block-within : (b : List ℕ) (at n o m : ℕ) → o + m ≤ n → block (block b at n) o m ≡ block b (at + o) m
 block-within b at n o m h =
     let e : n ≡ o + (n - o) = omega arith in
     ap (λ (k : ℕ). take m (drop o (take k (drop at b)))) e

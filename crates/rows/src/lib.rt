@@ -3,7 +3,7 @@
 
 ghost use Rattle.std.specs.Prelude.{◌≡◌, ℕ, ◌<◌, length, slice_index};
 ghost use Rattle.lists.specs.Parts.{grid, rows_at, written};
-ghost use Rattle.rows.specs.Rows.{Copies};
+ghost use Rattle.rows.specs.Rows.{Spaced};
 
 // Each cell becomes what f makes of the source's.
 pub fn copy_with<F: Fn(u64) -> u64>(cells: &mut [u64], source: &[u64], f: F)
@@ -17,29 +17,31 @@ pub fn copy_with<F: Fn(u64) -> u64>(cells: &mut [u64], source: &[u64], f: F)
     }
 }
 
-// n rows of m cells: from places so far apart in the source, to places a stride apart. Rows that stand one after the other in both are
-// copied as one.
-pub fn copy_rows(
-    cells: &mut [u64],
-    at: usize,
-    stride: usize,
-    n: usize,
-    m: usize,
-    source: &[u64],
-    from: usize,
-    apart: usize,
-)
-    requires { Copies cells.old at stride n m source.now from apart }
-    ensures { cells.new ≡ written cells.old (rows_at at stride (grid source.now from apart n m)) }
-{
-    if stride == m && apart == m {
-        let end = at + n * m;
-        cells[at..end].copy_from_slice(&source[from..from + n * m]);
-        return;
-    }
-    for p in 0..n {
-        let to = at + stride * p;
-        let o = from + apart * p;
-        cells[to..to + m].copy_from_slice(&source[o..o + m]);
+// n rows of m cells, so far apart.
+#[derive(Drop)]
+pub struct Rows<'a> {
+    pub cells: &'a [u64],
+    pub apart: usize,
+    pub n: usize,
+    pub m: usize,
+    ghost there: { Spaced cells.now apart n m },
+}
+
+impl<'a> Rows<'a> {
+    // To where rows are a stride apart. Rows that stand one after the other on both sides are copied as one.
+    pub fn copy_to(&self, cells: &mut [u64], stride: usize)
+        requires { Spaced cells.old stride self.now.n self.now.m }
+        ensures { cells.new ≡ written cells.old (rows_at 0 stride (grid self.now.cells.now 0 self.now.apart self.now.n self.now.m)) }
+    {
+        if stride == self.m && self.apart == self.m {
+            let end = self.n * self.m;
+            cells[..end].copy_from_slice(&self.cells[..end]);
+            return;
+        }
+        for p in 0..self.n {
+            let to = stride * p;
+            let o = self.apart * p;
+            cells[to..to + self.m].copy_from_slice(&self.cells[o..o + self.m]);
+        }
     }
 }

@@ -1,4 +1,7 @@
-use Rattle.std.proofs.Common.{arith}
+use Rattle.std.proofs.Common.{◌+◌, ◌*◌, arith}
+use Rattle.std.proofs.lemmas.List.{take_rest}
+use Rattle.rule.specs.Layout.{today_at}
+use Rattle.rows.proofs.CopyLaws.{lent-to, lent-from, lent-back}
 use Rattle.close.proofs.CloseLaws.{covered_none, covered-room, covered_more, covered-all, square-small}
 use Rattle.close.proofs.write_pairs.Goals as goal
 
@@ -8,11 +11,16 @@ overflow_mul-square c = omega (arith, square-small _ _ c.requires)
 pub loop-k-init : goal.loop-k-init
 loop-k-init c = covered_none _ _ c.requires
 
-pub copy_rows-requires : goal.copy_rows-requires
-copy_rows-requires c = covered-room _ _ c.requires _ _ c.loop-k.invariant.size c.loop-k-test.true
-
 pub loop-k-preserved : goal.loop-k-preserved
-loop-k-preserved c = covered_more _ _ c.requires c.loop-k-test.true c.loop-k.invariant _ c.copy_rows.ensures
+loop-k-preserved c =
+    let r = covered-room _ _ c.requires _ _ c.loop-k.invariant.size c.loop-k-test.true in
+    covered_more _ _ c.requires c.loop-k-test.true c.loop-k.invariant _ (lent-back _ _ _ _ _ _ _ _ r _ (take_rest c.args.book.now (today_at + 144 * c.loop-k.k)) _ c.copy_to.ensures)
+
+pub copy_to-requires : goal.copy_to-requires
+copy_to-requires c = lent-to _ _ _ _ _ _ _ _ (covered-room _ _ c.requires _ _ c.loop-k.invariant.size c.loop-k-test.true)
+
+pub invariant_of-marks : goal.invariant_of-marks
+invariant_of-marks c = record { there = lent-from _ _ _ _ _ _ _ _ (covered-room _ _ c.requires _ _ c.loop-k.invariant.size c.loop-k-test.true) _ (take_rest c.args.book.now (today_at + 144 * c.loop-k.k)) }
 
 pub returns : goal.returns
 returns c = covered-all _ _ c.requires (omega arith) c.loop-k.invariant

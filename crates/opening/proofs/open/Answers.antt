@@ -39,18 +39,18 @@ returns-then-pairs-n c = wrong-pairs _ _ _ _ _ _ _ (said-yes _ _ c.sizes_fit.ens
 pub returns-then-book-ne-LENGTH : goal.returns-then-book-ne-LENGTH
 returns-then-book-ne-LENGTH c = wrong-book _ _ _ _ _ _ _ (said-yes _ _ c.sizes_fit.ensures c.if-not-sizes_fit.false) (omega arith) (omega arith) (omega arith) (omega arith) (λ e. omega arith)
 
-pub widen-codes-requires : goal.widen-codes-requires
-widen-codes-requires c = omega (arith, (sizes-of _ _ (said-yes _ _ c.sizes_fit.ensures c.if-not-sizes_fit.false)).most)
+pub widen-requires : goal.widen-requires
+widen-requires c = (c.new-cells.ensures, omega (arith, (sizes-of _ _ (said-yes _ _ c.sizes_fit.ensures c.if-not-sizes_fit.false)).most))
 
 pub invariant_of-given : goal.invariant_of-given
 invariant_of-given c =
     record {
       lengths = lengths _ _ _ _ _ _ c.args.book.now (said-yes _ _ c.sizes_fit.ensures c.if-not-sizes_fit.false)
-          (ap length (c.as_slice.ensures.value ∙ c.widen-codes.ensures) ∙ c.if-codes-m.false) (omega arith) (omega arith) (omega arith) (omega arith);
+          (ap length (c.as_slice.ensures.value ∙ c.widen.ensures) ∙ c.if-codes-m.false) (omega arith) (omega arith) (omega arith) (omega arith);
     }
 
 pub returns : goal.returns
 returns c =
     let a = c.args in
     right-lengths _ _ _ _ _ _ _ (said-yes _ _ c.sizes_fit.ensures c.if-not-sizes_fit.false) (omega arith) (omega arith) (omega arith) (omega arith) (omega arith) _
-    (c.enter.ensures ∙ ap (λ (codes : List ℕ). open_lengths a.participants a.issues codes a.terms.now a.receipts.now a.pairs.now a.book.now) (c.as_slice.ensures.value ∙ c.widen-codes.ensures))
+    (c.enter.ensures ∙ ap (λ (codes : List ℕ). open_lengths a.participants a.issues codes a.terms.now a.receipts.now a.pairs.now a.book.now) (c.as_slice.ensures.value ∙ c.widen.ensures))
