@@ -36,7 +36,7 @@ pub fn kinds_of(basket: u64) -> [bool; 7]
     COMPOSITION[basket as usize]
 }
 
-// Whether the kind is one of them. A kind stays a number, as it stands in the book: a rule of the project.
+// Whether the kind is one of them. A kind is a number, as it stands in the book: a rule of the project.
 pub fn is_among(kinds: &[bool; 7], kind: u64) -> bool
     ensures { (k : ℕ) → (t : Terms) → KindsOf k kinds.now → t.kind ≡ kind → result ≡ within k t }
 {
@@ -46,7 +46,7 @@ pub fn is_among(kinds: &[bool; 7], kind: u64) -> bool
     }
 }
 
-// "An issue is unmarked if both are 0".
+// "An issue is unmarked if both are 0". A mark is a number, as it stands in the book: a rule of the project.
 #[tactic(auto, unfolding(rule::specs::Allocable::unmarked))]
 pub fn is_unmarked(redeemed: u64, interest: u64) -> bool
     ensures { (t : Terms) → t.redeemed ≡ redeemed → t.interest ≡ interest → result ≡ unmarked t }

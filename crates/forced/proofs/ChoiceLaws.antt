@@ -21,7 +21,7 @@ use Rattle.rule.specs.Value.{Terms, no_terms}
 use Rattle.rule.specs.Day.{terms_of}
 use Rattle.rule.specs.Filling.{eligible, or_else, most_notified, fifth_largest, forced_issue}
 use Rattle.baskets.specs.Kinds.{KindsOf}
-use Rattle.forced.specs.Choice.{noted, takes, is_eligible, ten_year, fifth_among, FirstOf, BestAt, BestOf, most_of, FifthAt, FifthOf}
+use Rattle.forced.specs.Choice.{noted, takes, is_eligible, ten_year, fifth_among, FirstOf, BestAt, BestOf, least_of, FifthAt, FifthOf}
 use Rattle.forced.specs.declared.Best.{Best}
 use Rattle.forced.specs.declared.Fifth.{Fifth}
 
@@ -59,18 +59,13 @@ module _ (n : ℕ → ℕ) {l : List ℕ} {most issue : ℕ} (h : BestAt n l mos
   }
 
 module _ (n : ℕ → ℕ) (l : List ℕ) (i : ℕ) where
-  -- the issue met has none, or fewer than the best so far, or is not eligible
-  pub best-none : (b : Option Best) → BestOf n l b → n i ≤ 0 → (e : Bool) → BestOf n (pick e (i ∷ l) l) b
-  best-none None h k e = stays n h i (inl (omega arith)) e
-  best-none (Some b) h k e = (h.0, stays n h.1 i (inl (omega arith)) e)
+  pub best-kept : (b : Option Best) → BestOf n l b → n i < least_of b → (e : Bool) → BestOf n (pick e (i ∷ l) l) b
+  best-kept None h k e = stays n h i (inl (omega arith)) e
+  best-kept (Some b) h k e = (h.0, stays n h.1 i (inr k) e)
 
-  pub best-fewer : (b : Option Best) → BestOf n l b → n i < most_of b → (e : Bool) → BestOf n (pick e (i ∷ l) l) b
-  best-fewer None h k e = absurd (omega arith)
-  best-fewer (Some b) h k e = (h.0, stays n h.1 i (inr k) e)
-
-  pub best-met : (b : Option Best) → BestOf n l b → {most : ℕ} → 0 < most → most_of b ≤ most → most ≡ n i → (0 < most) × BestAt n (i ∷ l) most i
-  best-met None h s k e = rw e (omega arith, met n h i (omega arith))
-  best-met (Some b) h s k e = rw e (omega arith, met n h.1 i (omega arith))
+  pub best-met : (b : Option Best) → BestOf n l b → {most : ℕ} → least_of b ≤ most → most ≡ n i → (0 < most) × BestAt n (i ∷ l) most i
+  best-met None h k e = rw e (omega arith, met n h i (omega arith))
+  best-met (Some b) h k e = rw e (omega (arith, h.0), met n h.1 i (omega arith))
 
 -- ---- the fifth largest
 

@@ -45,10 +45,10 @@ abbrev pub BestOf : (ℕ → ℕ) → List ℕ → Option Best → Type 0
 BestOf n l None = BestAt n l 0 0
 BestOf n l (Some b) = (0 < b.most.0) × BestAt n l b.most.0 b.issue
 
--- the most lots so far
-abbrev pub most_of : Option Best → ℕ
-most_of None = 0
-most_of (Some b) = b.most.0
+-- the fewest lots that make an issue the best
+abbrev pub least_of : Option Best → ℕ
+least_of None = 1
+least_of (Some b) = b.most.0
 
 pub record FifthAt (l : List ℕ) (met issue : ℕ) : Type 0 where
   pub met_is : met ≡ min 5 (length l)

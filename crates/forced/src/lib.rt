@@ -7,7 +7,7 @@ ghost use Rattle.rule.specs.Day.{terms_of};
 ghost use Rattle.rule.specs.Filling.{eligible, forced_issue};
 ghost use Rattle.value.specs.Rated.{terms_in};
 ghost use Rattle.baskets.specs.Kinds.{KindsOf};
-ghost use Rattle.forced.specs.Choice.{noted, takes, fifth_among, most_of, BestOf, FifthOf};
+ghost use Rattle.forced.specs.Choice.{noted, takes, fifth_among, least_of, BestOf, FifthOf};
 
 use rule::Lots;
 
@@ -28,11 +28,11 @@ struct Fifth {
     issue: usize,
 }
 
-// The most notified lots so far.
-fn most(best: Option<Best>) -> Lots
-    ensures { result.0 ≡ most_of best }
+// The fewest notified lots with which the issue met is the best: some, and no fewer than the best so far has.
+fn least(best: Option<Best>) -> Lots
+    ensures { result.0 ≡ least_of best }
 {
-    best.map_or(Lots(0), |b| b.most)
+    best.map_or(Lots(1), |b| b.most)
 }
 
 // "the unmarked issue of this basket with the deliverer's most notified lots .. (ties: smaller ISIN)": the issue met is smaller
@@ -46,7 +46,7 @@ fn with_notified(
 ) -> Option<Best>
     ensures { (k : ℕ) → (n : ℕ → ℕ) → (l : List ℕ) → KindsOf k kinds.now → notified.0 ≡ n i → BestOf n l best → BestOf n (pick (takes k (terms_of issue.now)) (i ∷ l) l) result }
 {
-    if notified > Lots(0) && notified >= most(best) && baskets::is_eligible(issue, kinds) {
+    if notified >= least(best) && baskets::is_eligible(issue, kinds) {
         return Some(Best {
             most: notified,
             issue: i,
@@ -92,6 +92,7 @@ fn fifth_largest(issues: &[[u64; 6]], kinds: &[bool; 7]) -> usize
 {
     let mut ten = None;
     let mut any = None;
+    // By number, which is the answer: `enumerate().rev()` was tried, and its proof needs an invariant more.
     for i in (0..issues.len()).rev() {
         if baskets::is_eligible(&issues[i], kinds) {
             let [kind, ..] = issues[i];

@@ -12,7 +12,7 @@ use Rattle.records.specs.declared.listing.Lists.{Lists}
 use Rattle.records.specs.Booked.{YenMoved}
 use Rattle.records.specs.Listed.{entry_of, Listed, MatchRoom, MatchAdded}
 use Rattle.records.proofs.ListingLaws.{same-then}
-use Rattle.records.specs.Issues.{IssuesWritable, IssuesWritten}
+use Rattle.records.specs.Issues.{IssuesWritten}
 use Rattle.matched.specs.Filled.{lots_with, UsedBy, LotsWritable, LotsWritten, Writable, Wrote}
 
 -- ---- the lots
@@ -30,21 +30,6 @@ module _ {b used : List ℕ} {s : Lists} {m : Entry} {f : Filling} {lots : List 
   size-with : length (lots_with f lots) ≡ length lots
   size-with = length-set lots f.forced (get_or lots f.forced 0 + further)
 
-  -- also in another book
-  pub lots-ask : {c : List ℕ} → length c ≡ length b → LotsWritable c used s m f lots
-  lots-ask e = record {
-    book = e ∙ h.book;
-    deliverer = h.deliverer;
-    receiver = h.receiver;
-    apart = h.apart;
-    few = h.few;
-    gone = h.gone;
-    small = h.small;
-    forced = h.forced;
-    forced_small = h.forced_small;
-    room = h.room;
-  }
-
   -- the deliverer's row, as far as there are lots
   abbrev width : ℕ
   width = length (lots_with f lots)
@@ -57,18 +42,6 @@ module _ {b used : List ℕ} {s : Lists} {m : Entry} {f : Filling} {lots : List 
 
   lent-row-is : (i : ℕ) → i < width → get_or lent-row i 0 ≡ get_or used (row + i) 0
   lent-row-is i l = ap (λ (p : List ℕ). get_or p i 0) (part-is used row width) ∙ block-get used row width i l
-
-  pub issues-ask : IssuesWritable b lent-row s m (lots_with f lots)
-  issues-ask = record {
-    cells = h.book;
-    deliverer = h.deliverer;
-    receiver = h.receiver;
-    apart = h.apart;
-    few = omega (arith, size-with, h.few);
-    places = omega (arith, part_length used row width row-fits);
-    small = λ i l. omega (arith, lent-row-is i l, h.small i (omega (arith, size-with)));
-    room = record { places = h.room };
-  }
 
   module _ {b' part : List ℕ} {t : Lists} (w : IssuesWritten b lent-row s m (lots_with f lots) b' part t) where
     abbrev u : List ℕ
@@ -94,9 +67,6 @@ module _ {b used : List ℕ} {s : Lists} {m : Entry} {f : Filling} {lots : List 
     forced-is =
         lent-in With used row width part row-fits used-with f.forced (omega (arith, size-with, h.forced))
         ∙ ap (λ (x : ℕ). get_or used place 0 + x) (get_or-set_same lots f.forced (get_or lots f.forced 0 + further) 0 h.forced)
-
-    pub forced-there : further ≤ get_or u place 0
-    forced-there = omega (arith, forced-is)
 
     abbrev used' : List ℕ
     used' = set u place (get_or u place 0 - further)

@@ -1,12 +1,11 @@
 -- Laws of the order of a deliverer's issues. Assumes nothing.
 use mathlib.Core.Path.{◌≡◌, refl, sym, ap, ap₂, ◌∙◌, subst}
-use mathlib.Core.Logic.{◌≢◌, inl, inr}
+use mathlib.Core.Logic.{◌≢◌, inl}
 use mathlib.Core.Bool.{Bool, false}
 use mathlib.Core.List.{List, [], ◌∷◌, ◌++◌}
 use Rattle.std.specs.Prelude.{Option}
-use Rattle.std.specs.List.{refill}
 use Prim.Native.Nat.{ℕ, ◌+◌, ◌-◌, ◌*◌, ◌<◌}
-use native.Mathlib.Nat.{le_refl, not-suc-le-zero}
+use native.Mathlib.Nat.{le_refl}
 use native.Mathlib.Decide.{ℕ_discrete}
 use native.Mathlib.Omega.{arith}
 use lib.ListN.{length, get_or, set, take, drop, length-set}
@@ -17,7 +16,7 @@ use Rattle.std.proofs.lemmas.List.{get_or_default}
 use Rattle.arrayvec.specs.ArrayVec.{ArrayVec}
 use Rattle.lists.specs.Tables.{up_to}
 use Rattle.lists.specs.Folds.{Every}
-use Rattle.lists.specs.Order.{sorted, ranked}
+use Rattle.lists.specs.Order.{ranked}
 use Rattle.lists.proofs.TableLaws.{length_from}
 use Rattle.lists.proofs.FoldLaws.{every-from}
 use Rattle.lists.proofs.PartLaws.{block-get, part-is, part_length}
@@ -25,12 +24,11 @@ use Rattle.lists.proofs.AppendLaws.{up_to-more}
 use Rattle.lists.proofs.OrderLaws.{ranked-alike}
 use Rattle.rule.specs.Layout.{notices_at}
 use Rattle.filling.specs.Rows.{Named}
-use Rattle.filling.specs.Match.{Idle}
 use Rattle.filling.proofs.OnceLaws.{kept-named}
 use Rattle.ranking.specs.Ranks.{Sortable}
 use Rattle.matching.specs.declared.Match.{Match}
 use Rattle.ordering.specs.Ordered.{Orderable, Ordered, order_key}
-use Rattle.ordering.proofs.OrderLaws.{ordered-moved, sorted-back}
+use Rattle.ordering.proofs.OrderLaws.{ordered-moved}
 use Rattle.orders.specs.Sizes.{issues_in}
 use Rattle.orders.specs.Orders.{Same, notified_in, ranking_in, RankedAt, Orders, Rankable, OrderedAt, Loadable, Loaded, OrderAsked, OrderFor}
 
@@ -54,10 +52,6 @@ module _ {ranks : List ℕ} {i : ℕ} (w : NumberedTo ranks i) where
   module _ (notified : List ℕ) (e : i ≡ length notified) where
     pub numbered-sortable : {lent : List ℕ} → lent ≡ ranks → Sortable notified lent
     numbered-sortable f = record { places = subst (Every (λ p. p < length notified)) (sym (f ∙ w.items)) (rw e (every-from (λ p. p < length notified) 0 (length notified) (λ p a b. omega arith))) }
-
-    pub numbered-ranked : {lent back : List ℕ} → lent ≡ ranks → back ≡ sorted (λ i. get_or notified i 0) lent
-        → refill (length ranks) ranks back ≡ ranked (λ i. get_or notified i 0) (length notified)
-    numbered-ranked f s = sorted-back (λ i. get_or notified i 0) ranks f s ∙ ap (sorted (λ i. get_or notified i 0)) (w.items ∙ ap up_to e)
 
 -- ---- the order of a deliverer's issues
 
@@ -156,17 +150,6 @@ module _ {b before : List ℕ} {last : Option Match} {m : Match} {usable : List 
   still-listed h s =
       let o : OrderedAt b before m (λ i. get_or usable i 0) order = a.last_is h s in
       record { kept = a.loadable.kept; named = named-of o; fits = inl o; listed = λ z. o }
-
-  pub not-asked : {none : List ℕ} → Idle (get_or b 2 0) all m.amount.0 → none ≡ [] → OrderFor b before m usable all orders none
-  not-asked h e = rw e (record {
-    kept = a.loadable.kept;
-    named = record {
-      inside = λ k l. absurd (not-suc-le-zero l);
-      once = λ i k l. absurd (not-suc-le-zero l);
-    };
-    fits = inr h;
-    listed = λ z. absurd (not-suc-le-zero z);
-  })
 
   pub now-listed : {orders' : List (ArrayVec ℕ)} {order' : List ℕ} → Loaded b before m.deliverer m.preferential usable orders' order' → OrderFor b before m usable all orders' order'
   now-listed l = record { kept = l.kept; named = named-of l.ordered; fits = inl l.ordered; listed = λ z. l.ordered }

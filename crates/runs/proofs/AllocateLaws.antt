@@ -77,15 +77,6 @@ module _ (B : Basket) (b₁ : List ℕ) (made : List Entry) (orders₁ : List (A
     pub issues-same : get_or b₁ 1 0 ≡ issues_in b
     issues-same = issues-kept s.b₀ s.begun.start.book _ b₁ s.begun.running.booked ∙ sym (issues-kept s.b₀ s.begun.start.book _ b (w.running s).booked)
 
-    pub book-size : length b ≡ length b₁
-    book-size = (w.running s).booked.size ∙ sym s.begun.running.booked.size
-
-    pub orders-size : length orders ≡ length orders₁
-    orders-size = (w.kept s).places ∙ sym s.begun.kept.places
-
-    pub used-size : length used ≡ length used₁
-    used-size = (w.running s).places ∙ sym s.begun.running.places
-
   -- ---- the next match
 
   module _ {b : List ℕ} {orders : List (ArrayVec ℕ)} {used order : List ℕ} {t : Lists} {last : Option Entry} {usable₀ : List ℕ} {j : ℕ} (w : Allocating b orders used order t last usable₀ j) (e : Entry) (h : j < length made) (E : e ≡ get_or made j e) where

@@ -1,5 +1,5 @@
 -- Laws of a basket's step. Assumes nothing.
-use mathlib.Core.Path.{◌≡◌, sym, ap, ◌∙◌, subst}
+use mathlib.Core.Path.{◌≡◌, ap, ◌∙◌}
 use mathlib.Core.Bool.{Bool, false}
 use mathlib.Core.List.{List, map}
 use Prim.Native.Nat.{ℕ, ◌+◌, ◌*◌, ◌≤◌}
@@ -13,18 +13,17 @@ use Rattle.rule.specs.Baskets.{within}
 use Rattle.rule.specs.Run.{Allocation, basket_plan}
 use Rattle.rule.specs.Layout.{view}
 use Rattle.rule.proofs.BookLaws.{SoundBook}
-use Rattle.rule.proofs.DrawLaws.{EachOnce}
 use Rattle.matching.specs.Plans.{match_of, Planned}
 use Rattle.matching.specs.declared.Match.{Match as Entry}
 use Rattle.arrayvec.specs.ArrayVec.{ArrayVec}
-use Rattle.stock.specs.Stock.{inside_of, Markable}
+use Rattle.stock.specs.Stock.{inside_of}
 use Rattle.stock.specs.declared.Stock.{Stock}
 use Rattle.orders.specs.Sizes.{issues_in}
-use Rattle.matched.specs.Filled.{plan_in, Plannable}
+use Rattle.matched.specs.Filled.{plan_in}
 use Rattle.matched.specs.declared.Basket.{Basket}
 use Rattle.records.specs.declared.listing.Lists.{Lists}
 use Rattle.runs.specs.Running.{done_to, BookedTo, Done, BasketAsks, AllocateAsks}
-use Rattle.runs.proofs.ReadLaws.{sized-kept, participants-kept, issues-kept, terms-in-kept, plan-kept, nothing-covered}
+use Rattle.runs.proofs.ReadLaws.{issues-kept, terms-in-kept, plan-kept, nothing-covered}
 
 module _ (k : ℕ) (b draw : List ℕ) (stock : Stock) (orders : List (ArrayVec ℕ)) (used' : List ℕ) (t : Lists) (s : BasketAsks k b draw stock orders used' t) where
   abbrev b₀ : List ℕ
@@ -50,13 +49,6 @@ module _ (k : ℕ) (b draw : List ℕ) (stock : Stock) (orders : List (ArrayVec 
 
   -- ---- the plan
 
-  pub plan-asked : Plannable b draw k
-  plan-asked = record {
-    sized = sized-kept b₀ sound done b booked;
-    basket = s.begun.basket;
-    drawn = subst (EachOnce draw) (sym (participants-kept b₀ sound done b booked)) s.begun.start.once;
-  }
-
   plan-same : plan_in b draw k ≡ basket_plan (view b₀) draw k
   plan-same = plan-kept b₀ sound done b booked k s.begun.basket (λ p. nothing-covered (view b₀) draw k p) draw
 
@@ -67,9 +59,6 @@ module _ (k : ℕ) (b draw : List ℕ) (stock : Stock) (orders : List (ArrayVec 
 
   places-are : places ≡ n
   places-are = length-take-le (get_or b 1 0) (replicate 32 false) (omega (arith, issues_most, length-replicate 32 false))
-
-  pub marks-asked : Markable b places
-  marks-asked = record { cells = booked.size; few = omega (arith, places-are, issues_most) }
 
   -- ---- the matches
 

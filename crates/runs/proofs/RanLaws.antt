@@ -3,7 +3,6 @@ use mathlib.Core.Path.{◌≡◌, refl, sym, ap, ap₂, ◌∙◌, subst}
 use mathlib.Core.Logic.{◌≢◌, ◌⊎◌, inl, inr}
 use mathlib.Core.List.{List, []}
 use Prim.Native.Nat.{ℕ, ◌+◌, ◌-◌, ◌*◌, ◌≤◌, ◌<◌}
-use native.Mathlib.Nat.{not-suc-le-zero}
 use native.Mathlib.Decide.{ℕ_discrete}
 use native.Mathlib.Omega.{arith}
 use lib.ListN.{length, get_or, set, take, drop, replicate, length-set, length-replicate, get_or-replicate}
@@ -32,7 +31,7 @@ use Rattle.std.specs.Array.{AllOfLen}
 use Rattle.arrayvec.specs.ArrayVec.{ArrayVec}
 use denote.Bor.{Bor}
 use Rattle.rows.specs.Rows.{Becomes}
-use Rattle.stock.specs.Stock.{Rows, Allocable}
+use Rattle.stock.specs.Stock.{Allocable}
 use Rattle.stock.specs.declared.Stock.{Stock}
 use Rattle.records.specs.declared.listing.Lists.{Lists}
 use Rattle.records.specs.Listed.{SameLists}
@@ -101,9 +100,6 @@ module _ (b draw : List ℕ) (stock : Stock) (t₀ : Lists) (h : BasketsAsk b dr
           running = subst (λ (d : List Allocation). Running b t₀.matches.now t₀.lines.now d c used' t) (ap (done_to (view b) draw) e ∙ done_all (view b) draw) w.done.running;
         }
 
-    pub baskets-book : length c ≡ length b
-    baskets-book = w.done.running.booked.size ∙ sym h.start.book.readable.size
-
 -- ---- the notices
 
 -- those of the participants below p are cleared
@@ -119,9 +115,6 @@ module _ (b : List ℕ) (s : Sized b) where
 
   abbrev m : ℕ
   m = issues_in b
-
-  pub cleared-none : ClearedTo b b 0
-  cleared-none = record { here = omega arith; size = refl; none = λ q i x. absurd (not-suc-le-zero x); kept = λ j f. refl }
 
   module _ {c : List ℕ} {p : ℕ} (w : ClearedTo b c p) (x : p < n) where
     abbrev at : ℕ
@@ -295,9 +288,6 @@ module _ (b draw m₀ l₀ : List ℕ) (h : Start b draw m₀ l₀) where
       rates = record { there = omega (arith, e, lent); rated = subst (λ (n : ℕ). Rates (terms_in n (block b terms_at 192)) rates.now) lent r };
       lots = a;
     }
-
-  pub stock-asked : (cells : List ℕ) → length cells ≡ 384 → Rows b cells
-  stock-asked cells e = record { book = h.book.readable.size; participants = h.book.sizes.few; issues = h.book.sizes.most; places = e }
 
   module _ {c : List ℕ} {t : Lists} (w : BasketsDone b draw m₀ l₀ c t) where
     pub clear-asked : Sized c

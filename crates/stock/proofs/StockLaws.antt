@@ -1,7 +1,7 @@
 -- Laws of what may be used. Assumes nothing.
 use mathlib.Core.Path.{◌≡◌, refl, sym, ap, ◌∙◌, subst}
 use mathlib.Core.Logic.{inl}
-use mathlib.Core.Bool.{Bool, true, false}
+use mathlib.Core.Bool.{Bool, false}
 use mathlib.Core.List.{List}
 use Prim.Native.Nat.{ℕ, ◌+◌, ◌-◌, ◌*◌, ◌≤◌, ◌<◌}
 use native.Mathlib.Nat.{not-suc-le-zero}
@@ -26,7 +26,7 @@ use Rattle.rows.proofs.RowLaws.{lent-size, lent-in, lent_out, Changed, changed-n
 use Rattle.value.specs.Rate.{rate}
 use Rattle.value.specs.Rated.{Summable}
 use Rattle.value.proofs.SumLaws.{Summed, sum-none, sum_kept, summable, sum_more, sum-all}
-use Rattle.stock.specs.Stock.{terms_in, allocable_in, inside_of, usable_of, may_use, Allocable, Usable, Usables}
+use Rattle.stock.specs.Stock.{terms_in, allocable_in, inside_of, usable_of, may_use, Usable, Usables}
 
 -- a term of issue i is the cell at its place
 term-at : (b : List ℕ) (i j : ℕ) → j < 6 → get_or (block b (terms_at + 6 * i) 6) j 0 ≡ get_or b (terms_at + 6 * i + j) 0
@@ -110,9 +110,6 @@ module _ (b cells : List ℕ) where
       cases q i k l (yes f) =
           subst (λ (r : ℕ). get_or (put_mid (32 * p) (32 * p + m - 32 * p) cells part) (32 * r + i) 0 ≡ allocable_in b r i) (sym f) (lent-in P cells (32 * p) m part fit w i (omega arith))
       cases q i k l (no f) = lent_out P cells (32 * p) m part fit w (32 * q + i) (inl (omega arith)) ∙ a.each q i (omega arith) k
-
-  pub allocable-all : {p : ℕ} → get_or b 0 0 ≤ p → AllocableTo b cells p → Allocable b cells
-  allocable-all l a = record { places = a.places; each = λ q i h. a.each q i (omega arith) }
 
 -- ---- what may be used, issue by issue
 

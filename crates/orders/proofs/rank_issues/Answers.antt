@@ -1,5 +1,5 @@
 use Rattle.std.proofs.Common.{arith}
-use Rattle.orders.proofs.OrderLaws.{numbered-room, numbered-more, numbered-sortable, numbered-ranked}
+use Rattle.orders.proofs.OrderLaws.{numbered-room, numbered-more, numbered-sortable}
 use Rattle.orders.proofs.rank_issues.Goals as goal
 
 pub push-requires : goal.push-requires
@@ -10,6 +10,3 @@ loop-issue-preserved c = numbered-more c.loop-issue.invariant c.push.ensures.ite
 
 pub sort-requires : goal.sort-requires
 sort-requires c = numbered-sortable c.loop-issue.invariant c.args.notified.now (omega arith) c.as_mut_slice.ensures.value
-
-pub returns : goal.returns
-returns c = numbered-ranked c.loop-issue.invariant c.args.notified.now (omega arith) c.as_mut_slice.ensures.value c.sort.ensures

@@ -1,16 +1,7 @@
 use Rattle.std.proofs.Common.{arith}
-use Rattle.rows.proofs.RowLaws.{changed-none, changed-more, changed-all}
+use Rattle.rows.proofs.RowLaws.{changed-more}
 use Rattle.stock.proofs.StockLaws.{allocable-cell}
 use Rattle.stock.proofs.allocable_row.Goals as goal
 
-pub loop-i-init : goal.loop-i-init
-loop-i-init c = changed-none _ _
-
 pub loop-i-preserved : goal.loop-i-preserved
 loop-i-preserved c = changed-more _ _ (omega arith) (allocable-cell _ _ _ c.allocable-lots.ensures) c.loop-i.invariant
-
-pub shape_of-row : goal.shape_of-row
-shape_of-row c = c.loop-i.invariant.size
-
-pub returns : goal.returns
-returns c = changed-all _ (omega arith) c.loop-i.invariant

@@ -1,9 +1,6 @@
 use Rattle.std.proofs.Common.{arith}
-use Rattle.stock.proofs.StockLaws.{inside-cell, marked-none, marked-more, marked-all}
+use Rattle.stock.proofs.StockLaws.{inside-cell, marked-more, marked-all}
 use Rattle.stock.proofs.mark_issues.Goals as goal
-
-pub loop-i-init : goal.loop-i-init
-loop-i-init c = marked-none _ _ _
 
 pub loop-i-preserved : goal.loop-i-preserved
 loop-i-preserved c = marked-more c.loop-i.invariant (omega arith) (inside-cell _ _ _ (λ t e. c.is_among.ensures _ t c.kinds_of-kinds.ensures e))
