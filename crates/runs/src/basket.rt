@@ -87,5 +87,5 @@ pub fn run_basket(
         inside,
         before: &before[..],
     };
-    allocate(book, &basket, plan.as_slice(), orders, &mut used[..], lists);
+    allocate(book, &basket, plan.as_slice(), orders, used, lists);
 }
