@@ -1,13 +1,14 @@
 -- The forced issue, chosen on the way down the issues. Assumes nothing.
-use mathlib.Core.Path.{◌≡◌, refl, sym, ap, subst, ◌∙◌}
+use mathlib.Core.Path.{◌≡◌, refl, sym, ap, ap₂, subst, ◌∙◌}
 use mathlib.Core.Logic.{◌⊎◌, inl, inr, ⊎_elim}
 use Prim.Native.Nat.{ℕ, suc, ◌+◌, ◌-◌, ◌≤◌, ◌<◌, suc-le-suc}
 use native.Mathlib.Nat.{le_refl, not-suc-le-zero}
 use native.Mathlib.Decide.{ℕ_discrete}
 use native.Mathlib.Omega.{arith}
 use mathlib.Core.Bool.{Bool, true, false, ◌&&◌}
-use mathlib.Core.List.{List, [], ◌∷◌, map}
-use lib.ListN.{length, get_or, length-map, get_or-map}
+use mathlib.Core.List.{List, [], ◌∷◌, ◌++◌, map, append-nil, append_assoc}
+use lib.ListN.{length, get_or, length-append, length-map, get_or-map}
+use lib.Seq.{get_or-append-add}
 use lib.Dec.{eqb, leb, ltb}
 use borrow.Author.Tests.{eq-eqb, ne_eqb, lt-ltb, le-ltb, le-leb, lt-leb}
 use Rattle.std.specs.Prelude.{Option, Some, None}
@@ -258,6 +259,53 @@ module _ (issues : List (List ℕ)) where
     fifth-all {i} {ten} {any} h d k q =
         let e = lower-all k ts (length issues) (length-map issues terms_of) h in
         chosen ts (eligible k ts) ten any (subst (λ (l : List ℕ). FifthOf (ten_year ts l) ten) e (d.ten_of k q)) (subst (λ (l : List ℕ). FifthOf l any) e (d.any_of k q))
+
+    -- ---- going down the issues, the first ones are left
+
+    pub record FifthLeft (rest : List (List ℕ)) (count : ℕ) (ten any : Option Fifth) : Type 0 where
+      pub behind : List (List ℕ)
+      pub parts : issues ≡ rest ++ behind
+      pub first : count ≡ 0
+      pub down : FifthDown (length rest) ten any
+
+    pub left-begin : {rest : List (List ℕ)} {count : ℕ} → count ≡ 0 → rest ≡ issues → FifthLeft rest count None None
+    left-begin z e = record {
+      behind = [];
+      parts = sym e ∙ sym (append-nil _);
+      first = z;
+      down = subst (λ (n : ℕ). FifthDown n None None) (sym (ap length e)) fifth-none;
+    }
+
+    module _ {rest : List (List ℕ)} {count count' i : ℕ} {ten any : Option Fifth} (w : FifthLeft rest count ten any) (rest' : List (List ℕ)) (x : List ℕ) (c : count' ≡ count)
+        (s : rest ≡ rest' ++ (x ∷ [])) (n : i ≡ count + length rest') where
+      place : i ≡ length rest' + 0
+      place = omega (arith, n, w.first)
+
+      here : issues ≡ rest' ++ (x ∷ w.behind)
+      here = w.parts ∙ ap (λ (r : List (List ℕ)). r ++ w.behind) s ∙ append_assoc rest' (x ∷ []) w.behind
+
+      pub left-next : suc i ≡ length rest
+      left-next = omega (arith, place, ap length s, length-append rest' (x ∷ []))
+
+      pub left-inside : i < length issues
+      left-inside = omega (arith, place, ap length here, length-append rest' (x ∷ w.behind))
+
+      left-item : get_or issues i [] ≡ x
+      left-item = ap₂ (λ (l : List (List ℕ)) (k : ℕ). get_or l k []) here place ∙ get_or-append-add rest' (x ∷ w.behind) 0 []
+
+      pub left-said : {r : Bool} → ((k : ℕ) → KindsOf k kinds → r ≡ takes k (terms_of x)) → Said kinds i r
+      left-said e k q = e k q ∙ ap (λ (y : List ℕ). takes k (terms_of y)) (sym left-item)
+
+      pub left-kind : get_or (get_or issues i []) 0 0 ≡ get_or x 0 0
+      left-kind = ap (λ (y : List ℕ). get_or y 0 0) left-item
+
+      pub left-more : {ten' any' : Option Fifth} → FifthDown i ten' any' → FifthLeft rest' count' ten' any'
+      left-more {ten'} {any'} d = record {
+        behind = x ∷ w.behind;
+        parts = here;
+        first = c ∙ w.first;
+        down = subst (λ (k : ℕ). FifthDown k ten' any') (omega (arith, place)) d;
+      }
 
 -- ---- the forced issue is one of the day's
 

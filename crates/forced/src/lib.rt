@@ -61,7 +61,7 @@ fn most_notified(issues: &[[u64; 6]], kinds: &[bool; 7], notified: &[u64]) -> Op
     ensures { (k : ℕ) → KindsOf k kinds.now → BestOf (noted notified.now) (eligible k (map terms_of issues.now)) result }
 {
     let mut best = None;
-    // By number: `enumerate().rev()` over a `zip` was tried, and has far more to prove, of rows of two lengths.
+    // By number, which is the answer: of issues and notified lots side by side each item would be a tuple in a tuple.
     for i in (0..issues.len()).rev() {
         best = with_notified(best, i, &issues[i], Lots(notified[i]), kinds);
     }
@@ -92,10 +92,9 @@ fn fifth_largest(issues: &[[u64; 6]], kinds: &[bool; 7]) -> usize
 {
     let mut ten = None;
     let mut any = None;
-    // By number, which is the answer: `enumerate().rev()` was tried, and its proof needs an invariant more.
-    for i in (0..issues.len()).rev() {
-        if baskets::is_eligible(&issues[i], kinds) {
-            let [kind, ..] = issues[i];
+    for (i, issue) in issues.iter().enumerate().rev() {
+        if baskets::is_eligible(issue, kinds) {
+            let [kind, ..] = *issue;
             if kind == TEN_YEAR {
                 ten = with_issue(ten, i);
             }
