@@ -45,7 +45,7 @@ fn with_cell(out: &mut impl Write, text: &[u8; 12], at: usize, value: u64) -> io
 fn two(out: &mut impl Write, a: &[u8; 12], b: &[u8; 12]) -> io::Result<()> {
     let codes = [a.map(u64::from), b.map(u64::from)];
     let before = said("before", isin::stands_before(&codes[0], &codes[1]));
-    let right = said("right", isin::codes_right(codes.as_flattened(), 2));
+    let right = said("right", isin::codes_right(codes.as_flattened()));
     out.write_all(a)?;
     out.write_all(b" ")?;
     out.write_all(b)?;
