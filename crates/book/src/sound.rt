@@ -45,7 +45,9 @@ pub fn tradable(book: &[u64], basket: usize) -> bool
     let issues = book[layout::ISSUES] as usize;
     let (terms, _) = book[layout::TERMS..layout::TERMS + layout::TERM * issues].as_chunks();
     let kinds = baskets::kinds_of(basket as u64);
-    terms.iter().any(|terms| baskets::is_eligible(terms, &kinds))
+    terms
+        .iter()
+        .any(|terms| baskets::is_eligible(terms, &kinds))
 }
 
 // A limit of signed cells, in yen or in lots.

@@ -1,13 +1,12 @@
 -- A list cut into parts of s elements, as `as_chunks` and `chunks_exact` give them. Assumes nothing.
-use Rattle.std.proofs.Common.{◌≡◌, ℕ, zero, suc, ◌+◌, ◌-◌, ◌*◌, ◌/◌, ◌<◌, ◌≤◌, List, [], ◌∷◌, ◌++◌, length, get_or, take, drop, drop-drop, refl, sym, ap, ap₂, ◌∙◌, subst, mul-zero, mul-suc, mul-le-mul_left, length-append, arith}
-use Rattle.std.proofs.Math.Nat.{lt-div-mul-add, div-mul-le_self, mul-div-le, add-mul-div_left}
+use Rattle.std.proofs.Common.{◌≡◌, ℕ, zero, suc, ◌+◌, ◌*◌, ◌/◌, ◌<◌, ◌≤◌, List, [], ◌++◌, length, get_or, take, drop, drop-drop, refl, sym, ap, ap₂, ◌∙◌, subst, mul-zero, mul-suc, mul-le-mul_left, length-append, arith}
+use Rattle.std.proofs.Math.Nat.{div-mul-le_self, mul-div-le, add-mul-div_left}
 use Rattle.std.proofs.Math.Seq.{take-append_seam, drop-append_seam}
 use Rattle.std.specs.Simd.{first_chunks}
 use Rattle.std.specs.Iterator.{AlwaysYields}
 use Rattle.std.specs.Slice.Iter.{chunks_exact_rest, chunks_exact_size, chunks_exact_steps}
 use Rattle.std.specs.declared.slice.ChunksExact.{ChunksExact}
 use Rattle.std.proofs.lemmas.Iterator.{YieldsList}
-use Rattle.lists.specs.Parts.{block}
 
 module _ {A : Type 0} where
   abbrev pub cut : ℕ → List A → List (List A)

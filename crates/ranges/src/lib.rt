@@ -137,9 +137,11 @@ impl<'a> Square<'a> {
     fn none_on_oneself(&self) -> bool
         ensures { result ≡ none_on_oneself self.now.marks.now 0 self.now.stride self.now.n }
     {
+        // By place: by rows and their numbers, `chunks_exact` with `enumerate`, soundness takes 16,470 instructions for 15,956 here and 16,281
+        // before, and every call but opening asks it.
         let mut bits = 0;
-        for (p, row) in self.marks.chunks_exact(self.stride).enumerate() {
-            bits |= row[p];
+        for p in 0..self.n {
+            bits |= self.marks[self.stride * p + p];
         }
         bits == 0
     }

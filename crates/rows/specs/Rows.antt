@@ -1,5 +1,5 @@
 -- What a loop over one row of cells leaves, and what rows that are copied ask. Assumes nothing.
-use Rattle.std.specs.Prelude.{◌≡◌, List, ℕ, ◌+◌, ◌*◌, ◌≤◌, ◌<◌, length, get_or}
+use Rattle.std.specs.Prelude.{◌≡◌, List, ℕ, ◌*◌, ◌≤◌, ◌<◌, length, get_or}
 
 -- P holds of each cell of the row, by its place
 pub record Becomes (P : ℕ → ℕ → Type 0) (entry exit : List ℕ) : Type 0 where

@@ -38,6 +38,7 @@ impl<'a> Rows<'a> {
             cells[..end].copy_from_slice(&self.cells[..end]);
             return;
         }
+        // By place: of what is written through `chunks_mut` nothing is known afterwards (LIBRARY.md of the kit, "Common slips").
         for p in 0..self.n {
             let to = stride * p;
             let o = self.apart * p;

@@ -1,5 +1,4 @@
 -- `opening::Given::enter` meets its contract. Assumes nothing.
-use Rattle.std.proofs.Common.{arith}
 use Rattle.lists.proofs.TestLaws.{said-no, said-yes}
 use Rattle.opening.proofs.OpenLaws.{codes-whole, terms-whole, receipts-whole, wrong-code, wrong-term, wrong-receipt, wrong-pair, all_right}
 use Rattle.opening.proofs.Given.enter.Goals as goal
