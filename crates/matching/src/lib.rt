@@ -77,6 +77,7 @@ impl Left<'_> {
             if self.owed[d] == 0 {
                 break;
             }
+            // a mark is a number, as it stands in the book: a rule of the project
             if *mark == 1 {
                 self.meet(true, d, r);
             }

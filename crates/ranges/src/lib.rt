@@ -42,7 +42,7 @@ pub fn terms_fit(terms: &[u64]) -> bool
 }
 
 // The highest bit is set exactly where the number is above the bound: what many numbers give is joined by `or`, and
-// tested once.
+// tested once. A bound is no type of its own: each caller has a constant of the paper, and shows it small where it writes it.
 pub fn above(x: u64, bound: u64) -> u64
     requires { bound ≤ 9223372036854775807 }
     ensures { nat_le result 9223372036854775807 ≡ nat_le x bound }
@@ -70,7 +70,7 @@ pub fn row_at_most(row: &[u64], bound: u64) -> bool
     joined(row, |cell| above(cell, bound)) <= LOW_BITS
 }
 
-// Rows a stride apart, of which the first m cells count.
+// Rows a stride apart, of which the first m cells count. They fill their slice, other than `rows::Rows`, of which a number is copied.
 #[derive(Drop)]
 pub struct Rows<'a> {
     pub cells: &'a [u64],

@@ -7,7 +7,8 @@ use crate::listing::Lists;
 use matching::Match;
 use rule::Lots;
 
-// One issue's lots, if there are any.
+// One issue's lots, if there are any. Book, lots used and lists are no struct: the callers read the book between the writes, and lend a row of
+// all lots used.
 fn write_issue(
     book: &mut [u64],
     used: &mut [u64],
