@@ -7,6 +7,7 @@ ghost use Rattle.ranges.specs.Ranges.{all_pass};
 ghost use Rattle.book.specs.Sized.{Sized, book_terms, is_within, while_runs, basket_fits, positions_fit, tally_fits, codes_fit, given_fits, state_fits};
 
 use crate::limits;
+use rows::Rows;
 
 // "Positive is owed to the clearing house, negative is due from it": the two sides of a signed cell. Two functions of a line each: one for
 // both would ask which side, and be no plainer.
@@ -103,12 +104,13 @@ impl<'a> Book<'a> {
         requires small { bound ≤ 9223372036854775807 }
         ensures { result ≡ at_most bound self.now.participants self.now.issues (grid self.now.cells.now at 32 self.now.participants self.now.issues) }
     {
-        let lots = ranges::Rows {
+        let lots = Rows {
             cells: &self.cells[at..at + layout::MOST_ISSUES * self.participants],
-            stride: layout::MOST_ISSUES,
+            apart: layout::MOST_ISSUES,
+            n: self.participants,
             m: self.issues,
         };
-        lots.at_most(bound)
+        ranges::rows_at_most(&lots, bound)
     }
 
     // Inlined, since the compiler then knows how few participants there are.
@@ -119,6 +121,7 @@ impl<'a> Book<'a> {
     {
         ranges::marks_fit(
             &self.cells[at..at + layout::SQUARE * layout::BASKETS],
+            layout::SQUARE,
             layout::MOST_PARTICIPANTS,
             self.participants,
         )

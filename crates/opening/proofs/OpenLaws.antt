@@ -2,7 +2,7 @@
 use mathlib.Core.Path.{◌≡◌, refl, sym, ap, ap₂, ◌∙◌}
 use mathlib.Core.Logic.{◌≢◌}
 use Prim.Native.Nat.{ℕ, zero, suc, ◌+◌, ◌-◌, ◌*◌, ◌/◌, ◌≤◌, ◌<◌}
-use native.Mathlib.Nat.{mul-le-mul, mul-le-mul_left, mul-suc, mul_comm, le_refl, mul-div_cancel}
+use native.Mathlib.Nat.{mul-le-mul, mul-le-mul_left, mul-suc, mul_comm, le_refl}
 use native.Mathlib.Numerals.{add-one}
 use native.Mathlib.Omega.{arith}
 use mathlib.Core.Bool.{Bool, true, false}
@@ -204,11 +204,6 @@ module _ {n m : ℕ} {codes terms receipts pairs : List ℕ} (l : Lengths n m co
 
   pub terms-whole : r ≡ all_terms_fit (length terms / 6) (map terms_of (grid terms 0 6 (length terms / 6) 6)) → r ≡ all_terms_fit m (map terms_of (grid terms 0 6 m 6))
   terms-whole e = let k : length terms / 6 ≡ m = omega (arith, l.terms_size) in e ∙ ap (λ (j : ℕ). all_terms_fit j (map terms_of (grid terms 0 6 j 6))) k
-
-  pub receipts-whole : (bound : ℕ) → r ≡ at_most bound (length receipts / m) m (grid receipts 0 m (length receipts / m) m) → r ≡ at_most bound n m (grid receipts 0 m n m)
-  receipts-whole bound e =
-      let k : length receipts / m ≡ n = ap (λ (j : ℕ). j / m) l.receipts_size ∙ mul-div_cancel n l.some.1 in
-      e ∙ ap (λ (j : ℕ). at_most bound j m (grid receipts 0 m j m)) k
 
 -- ---- what each return of a call with the right lengths shows
 

@@ -8,6 +8,7 @@ ghost use Rattle.opening.specs.Opened.{Lengths, marks_written, open_written, ope
 
 use arrayvec::ArrayVec;
 use book::limits;
+use rows::Rows;
 use rule::Refusal;
 
 // The codes of at most 32 issues, a cell for each byte.
@@ -42,7 +43,7 @@ impl<'a> Given<'a> {
     {
         let square = self.participants * self.participants;
         for k in 0..layout::BASKETS {
-            let marks = rows::Rows {
+            let marks = Rows {
                 cells: &self.pairs[square * k..],
                 apart: self.participants,
                 n: self.participants,
@@ -63,7 +64,7 @@ impl<'a> Given<'a> {
         book[layout::ISSUES] = self.issues as u64;
         book[layout::CODES..layout::CODES + self.codes.len()].copy_from_slice(self.codes);
         book[layout::TERMS..layout::TERMS + self.terms.len()].copy_from_slice(self.terms);
-        let receipts = rows::Rows {
+        let receipts = Rows {
             cells: self.receipts,
             apart: self.issues,
             n: self.participants,
@@ -84,15 +85,17 @@ impl<'a> Given<'a> {
         if !ranges::terms_fit(self.terms) {
             return Err(Refusal::WrongTerm);
         }
-        let receipts = ranges::Rows {
+        let receipts = Rows {
             cells: self.receipts,
-            stride: self.issues,
+            apart: self.issues,
+            n: self.participants,
             m: self.issues,
         };
-        if !receipts.at_most(limits::RECEIPT) {
+        if !ranges::rows_at_most(&receipts, limits::RECEIPT) {
             return Err(Refusal::WrongReceiptOrPair);
         }
-        if !ranges::marks_fit(self.pairs, self.participants, self.participants) {
+        let square = self.participants * self.participants;
+        if !ranges::marks_fit(self.pairs, square, self.participants, self.participants) {
             return Err(Refusal::WrongReceiptOrPair);
         }
         self.write(book);

@@ -1,6 +1,5 @@
 -- The ranges of opening data as tests on cells. Assumes nothing.
-use Rattle.std.proofs.Common.{◌≡◌, ℕ, zero, suc, ◌+◌, ◌-◌, ◌*◌, ◌/◌, ◌<◌, ◌≤◌, Bool, ◌&&◌, eqb, leb, List, [], ◌++◌, map, length, get_or, get_or-take, take, drop, drop-drop, refl, sym, ap, ◌∙◌, ap₂, mul-le-mul, mul-le-mul_left, mul-zero, mul-suc, arith, length-take, length-drop, length-append}
-use lib.Bits.{bit_or}
+use Rattle.std.proofs.Common.{◌≡◌, ℕ, zero, suc, ◌+◌, ◌-◌, ◌*◌, ◌/◌, ◌<◌, ◌≤◌, Bool, ◌&&◌, eqb, leb, List, [], ◌++◌, map, length, get_or, get_or-take, take, drop, drop-drop, sym, ap, ◌∙◌, ap₂, mul-le-mul_left, mul-zero, mul-suc, arith, length-take, length-drop, length-append}
 use native.Mathlib.Decide.{dec_lt}
 use lib.ListN.{get_or-map}
 use Rattle.lists.specs.Tests.{all_below}
@@ -13,8 +12,8 @@ use Rattle.std.proofs.lemmas.List.{drop-take, take-take, length-take-le}
 use Rattle.lists.proofs.PartLaws.{part-is, part_length, length-block, table-agree, block-get, grid-get}
 use Rattle.rule.specs.Day.{terms_of}
 use Rattle.rule.specs.Sound.{terms_fit, all_terms_fit, at_most, marks_fit}
-use Rattle.ranges.specs.Ranges.{Squares, all_pass, row_passes, square_fits}
-use Rattle.ranges.proofs.ScanLaws.{all-and, all_split, all-overlap, bits_below}
+use Rattle.ranges.specs.Ranges.{Fronts, all_pass, row_passes, square_fits}
+use Rattle.ranges.proofs.ScanLaws.{all-and, all_split}
 use Rattle.ranges.proofs.CutLaws.{cut, cut-count, cut-get, cut-room, part-first, part-rest}
 
 -- ---- a row
@@ -23,11 +22,6 @@ row-split : (test : ℕ → Bool) (b : List ℕ) (at i n : ℕ) → row_passes t
 row-split test b at i n =
     all_split (λ k. test (get_or b (at + k) 0)) i n
     ∙ ap (λ (r : Bool). row_passes test b at i && r) (all-ext _ _ n (λ k l. ap (λ (j : ℕ). test (get_or b j 0)) (omega arith)))
-
-row-overlap : (test : ℕ → Bool) (b : List ℕ) (at a o n : ℕ) → o ≤ a → a ≤ o + n → (row_passes test b at a && row_passes test b (at + o) n) ≡ row_passes test b at (o + n)
-row-overlap test b at a o n h l =
-    ap (λ (r : Bool). row_passes test b at a && r) (all-ext _ _ n (λ k p. ap (λ (j : ℕ). test (get_or b j 0)) (omega arith)))
-    ∙ all-overlap (λ k. test (get_or b (at + k) 0)) a o n h l
 
 -- a part of the cells, as a slice of their own
 module _ (test : ℕ → Bool) (b : List ℕ) (at : ℕ) where
@@ -39,35 +33,6 @@ module _ (test : ℕ → Bool) (b : List ℕ) (at : ℕ) where
 whole-passes : (test : ℕ → Bool) (b : List ℕ) → all_pass test b ≡ row_passes test b 0 (length b)
 whole-passes test b = all-ext _ _ (length b) (λ i l. let e : i ≡ 0 + i = omega arith in ap (λ (j : ℕ). test (get_or b j 0)) e)
 
--- the bits of a row's marks, from those of its parts
-module _ (b : List ℕ) (first last : ℕ) where
-  abbrev m : ℕ
-  m = length b
-
-  abbrev low : ℕ → Bool
-  low x = leb x 1
-
-  module _ (f : leb first 1 ≡ all_pass low (take 4 (drop 0 b))) (l : leb last 1 ≡ all_pass low (take (m - (m - 4)) (drop (m - 4) b))) (h : 4 ≤ m) where
-    front : leb first 1 ≡ row_passes low b 0 4
-    front = f ∙ part-passes low b 0 4 4 refl (omega arith)
-
-    back : leb last 1 ≡ row_passes low b (0 + (m - 4)) 4
-    back = let e : m - 4 ≡ 0 + (m - 4) = omega arith in l ∙ part-passes low b (m - 4) _ 4 (omega arith) (omega arith) ∙ ap (λ (j : ℕ). row_passes low b j 4) e
-
-    pub ends-are : m ≤ 8 → leb (bit_or first last) 1 ≡ all_pass low b
-    ends-are k =
-        let e : (m - 4) + 4 ≡ m = omega arith in
-        bits_below first last 1 ∙ ap₂ ◌&&◌ front back ∙ row-overlap low b 0 4 (m - 4) 4 (omega arith) (omega arith) ∙ ap (λ (n : ℕ). row_passes low b 0 n) e
-        ∙ sym (whole-passes low b)
-
-    pub three-are : (middle : ℕ) → leb middle 1 ≡ all_pass low (take (8 - 4) (drop 4 b)) → 8 ≤ m → m ≤ 12 → leb (bit_or (bit_or first middle) last) 1 ≡ all_pass low b
-    three-are middle g k n =
-        let e : (m - 4) + 4 ≡ m = omega arith in
-        let eight = bits_below first middle 1 ∙ ap₂ ◌&&◌ front (g ∙ part-passes low b 4 4 4 refl (omega arith)) ∙ sym (row-split low b 0 4 4) in
-        bits_below (bit_or first middle) last 1 ∙ ap₂ ◌&&◌ eight back
-        ∙ row-overlap low b 0 8 (m - 4) 4 (omega arith) (omega arith) ∙ ap (λ (n : ℕ). row_passes low b 0 n) e
-        ∙ sym (whole-passes low b)
-
 -- ---- rows
 
 module _ (b : List ℕ) (at stride n m : ℕ) where
@@ -75,6 +40,15 @@ module _ (b : List ℕ) (at stride n m : ℕ) where
   unfolding at_most
   rows_are bound =
       all-ext _ _ n (λ p k. all-ext _ _ m (λ i l. ap (λ (x : ℕ). leb x bound) (grid-get b at stride n m p i k l)))
+
+-- each row a slice of its own
+pub rows-lent : (b : List ℕ) (apart n m bound : ℕ) → m ≤ apart → apart * n ≤ length b
+    → all_below n (λ p. all_pass (λ c. leb c bound) (take (apart * p + m - apart * p) (drop (apart * p) b))) ≡ at_most bound n m (grid b 0 apart n m)
+rows-lent b apart n m bound wide room =
+    all-ext _ _ n (λ p l. let z : apart * p ≡ 0 + apart * p = omega arith in
+    part-passes (λ c. leb c bound) b (apart * p) (apart * p + m - apart * p) m (omega arith) (omega (arith, mul-le-mul_left apart l, mul-suc apart p, wide, room))
+    ∙ ap (λ (j : ℕ). row_passes (λ c. leb c bound) b j m) z)
+    ∙ sym (rows_are b 0 apart n m bound)
 
 -- rows that stand one after the other are one row
 rows-joined : (test : ℕ → Bool) (b : List ℕ) (at m n : ℕ) → all_below n (λ p. row_passes test b (at + m * p) m) ≡ row_passes test b at (m * n)
@@ -148,13 +122,6 @@ module _ (stride m : ℕ) (some : 0 < stride) (wide : m ≤ stride) where
       ap (λ (n : ℕ). all_below n (λ p. all_pass test (take m (get_or (cut stride b) p [])))) (cut-count stride b)
       ∙ all-ext _ _ (length b / stride) (λ p l. ap (λ (x : List ℕ). all_pass test (take m x)) (cut-get stride b p l) ∙ front-passes test b p (cut-room stride b p l))
 
-  pub rows-cut : (bound : ℕ) (b : List ℕ)
-      → all_below (length (cut stride b)) (λ p. all_pass (λ c. leb c bound) (take m (get_or (cut stride b) p []))) ≡ at_most bound (length b / stride) m (grid b 0 stride (length b / stride) m)
-  rows-cut bound b =
-      cut-passes (λ c. leb c bound) b
-      ∙ all-ext _ _ (length b / stride) (λ p l. let z : stride * p ≡ 0 + stride * p = omega arith in ap (λ (j : ℕ). row_passes (λ c. leb c bound) b j m) z)
-      ∙ sym (rows_are b 0 stride (length b / stride) m bound)
-
   -- the same of n rows from a place on, lent as a slice of their own
   pub part-cut : (test : ℕ → Bool) (b : List ℕ) (at n : ℕ) (part : List ℕ) → at + stride * n ≤ length b → part ≡ take (at + stride * n - at) (drop at b)
       → all_below (length (cut stride part)) (λ p. all_pass test (take m (get_or (cut stride part) p []))) ≡ all_below n (λ p. row_passes test b (at + stride * p) m)
@@ -165,14 +132,15 @@ module _ (stride m : ℕ) (some : 0 < stride) (wide : m ≤ stride) where
       ∙ all-ext _ _ n (λ p l. all-ext _ _ m (λ i j. let z : at + (stride * p + i) ≡ at + stride * p + i = omega arith in
       ap test (block-get b at (stride * n) (stride * p + i) (omega (arith, mul-le-mul_left stride l, mul-suc stride p, wide)) ∙ ap (λ (o : ℕ). get_or b o 0) z)))
 
--- rows of a part, as a slice of its own
-pub rows-there : (bound : ℕ) (b : List ℕ) (at stride n m : ℕ) (part : List ℕ) → 0 < stride → m ≤ stride → at + stride * n ≤ length b → part ≡ take (at + stride * n - at) (drop at b)
-    → at_most bound (length part / stride) m (grid part 0 stride (length part / stride) m) ≡ at_most bound n m (grid b at stride n m)
-rows-there bound b at stride n m part some w h e =
-    let k : length part / stride ≡ n = ap (λ (l : ℕ). l / stride) (ap length e ∙ part_length b at (stride * n) h) ∙ mul-div_cancel_left n some in
-    ap₂ (λ (j : ℕ) (t : List (List ℕ)). at_most bound j m t) k (ap (λ (j : ℕ). grid part 0 stride j m) k ∙ grid-there b at stride n m part h e w)
-
 -- ---- n rows gone through one after the other
+
+-- a stride above the cells that count is above 0
+pub stride-some : (n stride : ℕ) → n ≤ stride → (n ≡ stride → ⊥) → 0 < stride
+stride-some n stride wide other = go (dec_lt 0 stride)
+  where
+    go : Dec (0 < stride) → 0 < stride
+    go (yes k) = k
+    go (no k) = absurd (other (omega arith))
 
 -- of those below p, and what is left
 pub record Left (b : List ℕ) (s n : ℕ) (rest : List ℕ) (p : ℕ) : Type 0 where
@@ -237,28 +205,27 @@ square-there b o w stride n h k =
     (all-ext _ _ n (λ p l. let e : o + (0 + stride * p + p) ≡ o + stride * p + p = omega arith in
     ap (λ (x : ℕ). eqb x 0) (block-get b o w (0 + stride * p + p) (omega (arith, mul-le-mul_left stride l, h, k)) ∙ ap (λ (j : ℕ). get_or b j 0) e)))
 
-module _ (b : List ℕ) (stride n : ℕ) (w : Squares b stride n) where
-  pub square-some : 0 < stride * stride
-  square-some = omega (arith, mul-le-mul w.apart.some w.apart.some)
+-- the seven baskets' squares, so many cells apart
+pub within-seven : (apart k : ℕ) → k < 7 → apart * k + apart ≤ 7 * apart
+within-seven apart k l = omega (arith, mul-le-mul_left apart l)
 
-  seven : length b / (stride * stride) ≡ 7
-  seven = ap (λ (k : ℕ). k / (stride * stride)) w.size ∙ mul-div_cancel_left 7 square-some
+pub square-lent : (b : List ℕ) (apart stride n k : ℕ) → n ≤ stride → stride * n ≤ apart → apart * 7 ≤ length b → k < 7
+    → Fronts (take (apart * k + apart - apart * k) (drop (apart * k) b)) stride n
+square-lent b apart stride n k wide fit room l = record { wide = wide; room = omega (arith, fit, part_length b (apart * k) apart (omega (arith, within-seven apart k l, room))) }
 
-  -- the marks as slices of a square each
-  pub marks-cut : all_below (length (cut (stride * stride) b)) (λ k. square_fits (get_or (cut (stride * stride) b) k []) 0 stride n)
-      ≡ marks_fit n (table 7 (λ k. grid b (stride * stride * k) stride n n))
-  marks-cut =
-      ap (λ (m : ℕ). all_below m (λ k. square_fits (get_or (cut (stride * stride) b) k []) 0 stride n)) (cut-count (stride * stride) b ∙ seven)
-      ∙ all-ext _ _ 7 (λ k l. ap (λ (x : List ℕ). square_fits x 0 stride n) (cut-get (stride * stride) b k (omega (arith, seven)))
-      ∙ square-there b (stride * stride * k) (stride * stride) stride n w.apart.wide (mul-le-mul_left stride w.apart.wide))
-      ∙ sym (marks-are b (stride * stride) stride n)
+-- each a slice of its own
+pub marks-lent : (b : List ℕ) (apart stride n : ℕ) → n ≤ stride → stride * n ≤ apart
+    → all_below 7 (λ k. square_fits (take (apart * k + apart - apart * k) (drop (apart * k) b)) 0 stride n) ≡ marks_fit n (table 7 (λ k. grid b (apart * k) stride n n))
+marks-lent b apart stride n wide fit =
+    all-ext _ _ 7 (λ k l. ap (λ (x : List ℕ). square_fits x 0 stride n) (part-is b (apart * k) apart) ∙ square-there b (apart * k) apart stride n wide fit)
+    ∙ sym (marks-are b apart stride n)
 
 -- marks of a part, as a slice of its own
-pub marks-there : (b : List ℕ) (at stride n : ℕ) (part : List ℕ) → n ≤ stride → part ≡ take (at + stride * stride * 7 - at) (drop at b)
-    → table 7 (λ k. grid part (stride * stride * k) stride n n) ≡ table 7 (λ k. grid b (at + stride * stride * k) stride n n)
-marks-there b at stride n part h e =
-    ap (λ (x : List ℕ). table 7 (λ k. grid x (stride * stride * k) stride n n)) (e ∙ part-is b at (stride * stride * 7))
-    ∙ table-agree 7 _ _ (λ k l. table-agree n _ _ (λ p j. let z : at + (stride * stride * k + stride * p) ≡ at + stride * stride * k + stride * p = omega arith in
-    block-within b at (stride * stride * 7) (stride * stride * k + stride * p) n
-    (omega (arith, mul-le-mul_left (stride * stride) l, mul-suc (stride * stride) k, mul-le-mul_left stride j, mul-suc stride p, mul-le-mul_left stride h, h))
+pub marks-there : (b : List ℕ) (at apart stride n : ℕ) (part : List ℕ) → n ≤ stride → stride * n ≤ apart → part ≡ take (at + apart * 7 - at) (drop at b)
+    → table 7 (λ k. grid part (apart * k) stride n n) ≡ table 7 (λ k. grid b (at + apart * k) stride n n)
+marks-there b at apart stride n part h fit e =
+    ap (λ (x : List ℕ). table 7 (λ k. grid x (apart * k) stride n n)) (e ∙ part-is b at (apart * 7))
+    ∙ table-agree 7 _ _ (λ k l. table-agree n _ _ (λ p j. let z : at + (apart * k + stride * p) ≡ at + apart * k + stride * p = omega arith in
+    block-within b at (apart * 7) (apart * k + stride * p) n
+    (omega (arith, within-seven apart k l, mul-le-mul_left stride j, mul-suc stride p, fit, h))
     ∙ ap (λ (o : ℕ). block b o n) z))

@@ -1,23 +1,24 @@
 -- The ranges of opening data as tests on cells, and what their slices need. Assumes nothing.
-use Rattle.std.specs.Prelude.{◌≡◌, ℕ, ◌+◌, ◌*◌, ◌≤◌, ◌<◌, Bool, ◌&&◌, List, length, nat_eq, slice_index}
+use Rattle.std.specs.Prelude.{◌≡◌, ℕ, ◌+◌, ◌*◌, ◌≤◌, Bool, ◌&&◌, List, length, nat_eq, slice_index}
 use Rattle.lists.specs.Tests.{all_below}
 use Rattle.lists.specs.Parts.{grid}
 use Rattle.rule.specs.Sound.{at_most}
 
--- rows a stride apart, of which m cells count
-pub record Apart (stride m : ℕ) : Type 0 where
-  pub some : 0 < stride
-  pub wide : m ≤ stride
-
--- n such rows of n cells
+-- n rows of n cells, a stride apart
 pub record SquareOf (marks : List ℕ) (stride n : ℕ) : Type 0 where
-  pub apart : Apart stride n
+  pub wide : n ≤ stride
   pub size : length marks ≡ stride * n
 
--- seven squares of `stride` such rows
-pub record Squares (marks : List ℕ) (stride n : ℕ) : Type 0 where
-  pub apart : Apart stride n
-  pub size : length marks ≡ stride * stride * 7
+-- at the front of some cells
+pub record Fronts (square : List ℕ) (stride n : ℕ) : Type 0 where
+  pub wide : n ≤ stride
+  pub room : stride * n ≤ length square
+
+-- for each of the seven baskets
+pub record Squares (marks : List ℕ) (apart stride n : ℕ) : Type 0 where
+  pub wide : n ≤ stride
+  pub square : stride * n ≤ apart
+  pub room : apart * 7 ≤ length marks
 
 -- every cell passes a test
 abbrev pub all_pass : (ℕ → Bool) → List ℕ → Bool

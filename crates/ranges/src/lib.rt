@@ -6,7 +6,9 @@ ghost use Rattle.lists.specs.Tables.{table};
 ghost use Rattle.lists.specs.Parts.{grid};
 ghost use Rattle.rule.specs.Day.{terms_of};
 ghost use Rattle.rule.specs.Sound.{sizes_fit, terms_fit, all_terms_fit, at_most, marks_fit};
-ghost use Rattle.ranges.specs.Ranges.{Apart, SquareOf, Squares, all_pass, none_on_oneself, square_fits};
+ghost use Rattle.ranges.specs.Ranges.{SquareOf, Fronts, Squares, all_pass, none_on_oneself, square_fits};
+
+use rows::Rows;
 
 // The largest number that has not the highest bit.
 pub const LOW_BITS: u64 = 9223372036854775807;
@@ -42,7 +44,7 @@ pub fn terms_fit(terms: &[u64]) -> bool
 }
 
 // The highest bit is set exactly where the number is above the bound: what many numbers give is joined by `or`, and
-// tested once. A bound is no type of its own: each caller has a constant of the paper, and shows it small where it writes it.
+// tested once. A bound is no type of its own: it is a number of one call, shown small there.
 pub fn above(x: u64, bound: u64) -> u64
     requires { bound ≤ 9223372036854775807 }
     ensures { nat_le result 9223372036854775807 ≡ nat_le x bound }
@@ -70,24 +72,15 @@ pub fn row_at_most(row: &[u64], bound: u64) -> bool
     joined(row, |cell| above(cell, bound)) <= LOW_BITS
 }
 
-// Rows a stride apart, of which the first m cells count. They fill their slice, other than `rows::Rows`, of which a number is copied.
-#[derive(Drop)]
-pub struct Rows<'a> {
-    pub cells: &'a [u64],
-    pub stride: usize,
-    pub m: usize,
-    ghost apart: { Apart stride m },
-}
-
-impl<'a> Rows<'a> {
-    pub fn at_most(&self, bound: u64) -> bool
-        requires { bound ≤ 9223372036854775807 }
-        ensures { result ≡ at_most bound (length self.now.cells.now / self.now.stride) self.now.m (grid self.now.cells.now 0 self.now.stride (length self.now.cells.now / self.now.stride) self.now.m) }
-    {
-        self.cells
-            .chunks_exact(self.stride)
-            .all(|row| row_at_most(&row[..self.m], bound))
-    }
+// The same of each row.
+pub fn rows_at_most(rows: &Rows, bound: u64) -> bool
+    requires { bound ≤ 9223372036854775807 }
+    ensures { result ≡ at_most bound rows.now.n rows.now.m (grid rows.now.cells.now 0 rows.now.apart rows.now.n rows.now.m) }
+{
+    (0..rows.n).all(|p| {
+        let o = rows.apart * p;
+        row_at_most(&rows.cells[o..o + rows.m], bound)
+    })
 }
 
 // The bits of marks, each 0 or 1 where they are no more than the lowest.
@@ -125,8 +118,7 @@ impl<'a> Square<'a> {
     fn none_on_oneself(&self) -> bool
         ensures { result ≡ none_on_oneself self.now.marks.now 0 self.now.stride self.now.n }
     {
-        // By place: by rows and their numbers, `chunks_exact` with `enumerate`, soundness takes 16,470 instructions for 15,956 here and 16,281
-        // before, and every call but opening asks it.
+        // By place: pieces of a stride would ask that it is above 0.
         let mut bits = 0;
         for p in 0..self.n {
             bits |= self.marks[self.stride * p + p];
@@ -135,9 +127,9 @@ impl<'a> Square<'a> {
     }
 }
 
-// One basket's pair marks, at the front of its square.
+// One basket's pair marks, at the front of its cells.
 fn square_fits(square: &[u64], stride: usize, n: usize) -> bool
-    requires { Apart stride n × (length square.now ≡ stride * stride) }
+    requires { Fronts square.now stride n }
     ensures { result ≡ square_fits square.now 0 stride n }
 {
     let square = Square {
@@ -148,12 +140,13 @@ fn square_fits(square: &[u64], stride: usize, n: usize) -> bool
     square.at_most_one() && square.none_on_oneself()
 }
 
-// The pair marks of the seven baskets, in squares of as many rows as cells in a row.
-pub fn marks_fit(marks: &[u64], stride: usize, n: usize) -> bool
-    requires { Squares marks.now stride n }
-    ensures { result ≡ marks_fit n (table 7 (λ k. grid marks.now (stride * stride * k) stride n n)) }
+// The pair marks of the seven baskets, each basket's so many cells after the last one's.
+pub fn marks_fit(marks: &[u64], apart: usize, stride: usize, n: usize) -> bool
+    requires { Squares marks.now apart stride n }
+    ensures { result ≡ marks_fit n (table 7 (λ k. grid marks.now (apart * k) stride n n)) }
 {
-    marks
-        .chunks_exact(stride * stride)
-        .all(|square| square_fits(square, stride, n))
+    (0..layout::BASKETS).all(|k| {
+        let at = apart * k;
+        square_fits(&marks[at..at + apart], stride, n)
+    })
 }

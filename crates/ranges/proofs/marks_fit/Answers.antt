@@ -1,14 +1,16 @@
 -- `ranges::marks_fit` meets its contract. Assumes nothing.
-use Rattle.std.proofs.Common.{List, [], ℕ, ◌*◌, ◌∙◌, rules}
+use Rattle.std.proofs.Common.{◌+◌, ◌-◌, ◌*◌, take, drop, refl, ◌∙◌, rules}
+use Rattle.std.proofs.iter.Serving.{serving}
 use Rattle.ranges.specs.Ranges.{square_fits}
-use Rattle.ranges.proofs.ScanLaws.{all-items}
-use Rattle.ranges.proofs.CutLaws.{cut, YieldsList-from_chunks}
-use Rattle.ranges.proofs.RangeLaws.{marks-cut, square-some}
+use Rattle.ranges.proofs.ScanLaws.{all-below}
+use Rattle.ranges.proofs.RangeLaws.{marks-lent, square-lent, within-seven}
 use Rattle.ranges.proofs.marks_fit.Goals as goal
+
+pub all-requires-clause-callable : goal.all-requires-clause-callable
+all-requires-clause-callable c = grind (serving, within-seven, square-lent)
 
 pub returns : goal.returns
 returns c =
     let a = c.args in
-    all-items (λ (square : List ℕ). square_fits square 0 a.stride a.n) (cut (a.stride * a.stride) a.marks.now) [] _ c.all.ensures.ran
-    (YieldsList-from_chunks (a.stride * a.stride) a.marks.now c.chunks_exact.ensures.rest c.chunks_exact.ensures.size (square-some _ _ _ c.requires)) (λ x q k. search rules) (λ x q k. search rules)
-    ∙ marks-cut _ _ _ c.requires
+    all-below (λ k. square_fits (take (a.apart * k + a.apart - a.apart * k) (drop (a.apart * k) a.marks.now)) 0 a.stride a.n) 7 _ c.all.ensures.ran refl (λ x q k. search rules) (λ x q k. search rules)
+    ∙ marks-lent _ _ _ _ c.requires.wide c.requires.square

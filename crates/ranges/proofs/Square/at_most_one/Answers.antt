@@ -4,7 +4,7 @@ use Rattle.std.proofs.lemmas.List.{length-take-le}
 use Rattle.std.proofs.lemmas.Option.{MatchOption-at_some, MatchOption-at_none}
 use Rattle.ranges.specs.Ranges.{all_pass, row_passes}
 use Rattle.ranges.proofs.ScanLaws.{gathered_none, gathered-more, gathered-all, bits_below}
-use Rattle.ranges.proofs.RangeLaws.{rows_are, square-joined, left-all, left-more, none-left, row-left, row-is, row-room, front-passes}
+use Rattle.ranges.proofs.RangeLaws.{rows_are, square-joined, left-all, left-more, none-left, row-left, row-is, row-room, front-passes, stride-some}
 use Rattle.ranges.proofs.Square.at_most_one.Goals as goal
 
 abbrev low : ℕ → Bool
@@ -25,7 +25,7 @@ pub slice_bounds-bits_of-end : goal.slice_bounds-bits_of-end
 slice_bounds-bits_of-end c =
     let s = c.args.self.now in
     let next = MatchOption-at_some _ _ _ c.in-Some.is c.next.ensures.steps.1 in
-    sym (length-take-le s.n c.in-Some.row.now (omega (arith, next.1, c.loop-row.invariant.2, s.rows.apart.wide)))
+    sym (length-take-le s.n c.in-Some.row.now (omega (arith, next.1, c.loop-row.invariant.2, s.rows.wide)))
 
 pub loop-row-preserved : goal.loop-row-preserved
 loop-row-preserved c =
@@ -36,14 +36,14 @@ loop-row-preserved c =
     let next = MatchOption-at_some _ _ _ c.in-Some.is c.next.ensures.steps.1 in
     let long = next.1 ∙ w.2 in
     let e : s.stride * p ≡ 0 + s.stride * p = omega arith in
-    let room = row-room b s.stride s.n s.rows.apart.some s.rows.size _ p w.1 c.in-Some.row.now _ next.0 long in (
+    let room = row-room b s.stride s.n (stride-some s.n s.stride s.rows.wide c.if-self.false) s.rows.size _ p w.1 c.in-Some.row.now _ next.0 long in (
       p + 1,
-      left-more b s.stride s.n s.rows.apart.some s.rows.size _ p w.1 c.in-Some.row.now _ next.0 long,
+      left-more b s.stride s.n (stride-some s.n s.stride s.rows.wide c.if-self.false) s.rows.size _ p w.1 c.in-Some.row.now _ next.0 long,
       c.next.ensures.steps.0 ∙ w.2,
-      gathered-more w.3 (row-left b s.stride s.n s.rows.apart.some s.rows.size _ p w.1 c.in-Some.row.now _ next.0 long) (bits_below c.loop-row.bits c.bits_of-bits.result 1
+      gathered-more w.3 (row-left b s.stride s.n (stride-some s.n s.stride s.rows.wide c.if-self.false) s.rows.size _ p w.1 c.in-Some.row.now _ next.0 long) (bits_below c.loop-row.bits c.bits_of-bits.result 1
           ∙ ap (λ (r : Bool). leb c.loop-row.bits 1 && r) (c.bits_of-bits.ensures
-          ∙ ap (λ (x : List ℕ). all_pass low (take s.n x)) (row-is b s.stride s.n s.rows.apart.some s.rows.size _ p w.1 c.in-Some.row.now _ next.0 long)
-          ∙ front-passes s.stride s.n s.rows.apart.some s.rows.apart.wide low b p room
+          ∙ ap (λ (x : List ℕ). all_pass low (take s.n x)) (row-is b s.stride s.n (stride-some s.n s.stride s.rows.wide c.if-self.false) s.rows.size _ p w.1 c.in-Some.row.now _ next.0 long)
+          ∙ front-passes s.stride s.n (stride-some s.n s.stride s.rows.wide c.if-self.false) s.rows.wide low b p room
           ∙ ap (λ (j : ℕ). row_passes low b j s.n) e)),
     )
 
@@ -51,4 +51,4 @@ pub returns : goal.returns
 returns c =
     let s = c.args.self.now in
     let w = c.loop-row.invariant in
-    gathered-all w.3 (none-left s.marks.now s.stride s.n s.rows.apart.some s.rows.size _ w.0 w.1 (omega (arith, (MatchOption-at_none _ _ c.in-None.is c.next.ensures.steps.1).0, w.2))) ∙ sym (rows_are s.marks.now 0 s.stride s.n s.n 1)
+    gathered-all w.3 (none-left s.marks.now s.stride s.n (stride-some s.n s.stride s.rows.wide c.if-self.false) s.rows.size _ w.0 w.1 (omega (arith, (MatchOption-at_none _ _ c.in-None.is c.next.ensures.steps.1).0, w.2))) ∙ sym (rows_are s.marks.now 0 s.stride s.n s.n 1)

@@ -7,4 +7,4 @@ use Rattle.book.proofs.sound.Book.marks_fit.Goals as goal
 pub returns : goal.returns
 returns c =
     let s = c.args.self.now in
-    c.marks_fit.ensures ∙ ap (marks_fit s.participants) (marks-there s.cells.now c.args.at 12 s.participants _ (omega (arith, s.sized.participants, s.participants_are)) refl)
+    c.marks_fit.ensures ∙ ap (marks_fit s.participants) (marks-there s.cells.now c.args.at 144 12 s.participants _ (omega (arith, s.sized.participants, s.participants_are)) (omega (arith, s.sized.participants, s.participants_are)) refl)
