@@ -26,7 +26,8 @@ const COMPOSITION: [[bool; 7]; 7] = [
     [Y, Y, Y, Y, Y, Y, Y],
 ];
 
-// The kinds that a basket takes: its row of the table. There is no basket beyond G, and it takes none.
+// The kinds that a basket takes: its row of the table. There is no basket beyond G, and it takes none. No struct: it would hold the basket's
+// number beside the row for its proof alone.
 pub fn kinds_of(basket: u64) -> [bool; 7]
     ensures { KindsOf basket result }
 {

@@ -64,7 +64,8 @@ pub struct Filling {
 }
 
 // What a match may use of its deliverer's lots, and in which order: `all` is what all usable lots are worth. There are six terms to an
-// issue, and the order need not name every issue. Rows of cells, no row of structs: terms and notified lots stand so in the book.
+// issue, and the order need not name every issue. Rows of cells, no row of structs: terms and notified lots stand so in the book, and an order
+// names an issue by its number in each row.
 #[derive(Clone, Copy)]
 pub struct Supply<'a> {
     pub terms: &'a [u64],

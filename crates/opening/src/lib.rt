@@ -35,6 +35,7 @@ struct Given<'a> {
     ghost lengths: { Lengths participants issues codes.now terms.now receipts.now pairs.now },
 }
 
+// The book stays a slice, as the C interface lends it: each method that writes it asks for its length.
 impl<'a> Given<'a> {
     // Yesterday's pair marks, basket by basket.
     fn write_marks(&self, book: &mut [u64])

@@ -19,7 +19,8 @@ fn follows(last: Option<Match>, m: Match) -> bool
     }
 }
 
-// A deliverer's issues, ranked by notified lots when they are first asked for in a run: until then the ranking is empty.
+// A deliverer's issues, ranked by notified lots when they are first asked for in a run: until then the ranking is empty. Not by
+// `ranking::rank`, which writes over cells that are there.
 fn rank_issues(notified: &[u64], ranks: &mut Order)
     requires { Rankable notified.now ranks.old.items }
     ensures { ranks.new.items ≡ ranked (λ i. get_or notified.now i 0) (length notified.now) }

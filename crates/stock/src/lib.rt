@@ -16,7 +16,8 @@ pub struct Stock<'a> {
     pub allocable: &'a [u64],
 }
 
-// A participant's allocable quantities. By number: a zip of the row with terms, notices and receipts would be tuples in tuples.
+// A participant's allocable quantities. By number, and the marks by their place in the book, as notices and receipts are read: a zip of the row
+// with all four would be tuples in tuples.
 fn allocable_row(book: &[u64], participant: usize, row: &mut [u64])
     requires { Row book.now participant row.old }
     ensures { Becomes (λ i c. c ≡ allocable_in book.now participant i) row.old row.new }
