@@ -92,11 +92,11 @@ pub fn is_code(code: &[u64]) -> bool
     of_japan(code) && is_isin(code)
 }
 
-// Does a stand before b, by the first cell in which they differ? `cmp` passes equal cells in groups, `<` would take them one by one.
+// Does a stand before b, by the first cell in which they differ?
 pub fn stands_before(a: &[u64], b: &[u64]) -> bool
     ensures { result ≡ before a.now b.now }
 {
-    a.cmp(b).is_lt()
+    a < b
 }
 
 // Is each of the codes one, and do they rise strictly? They stand one after the other.
