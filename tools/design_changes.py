@@ -16,7 +16,7 @@ METHODS = [
     ('turns', 'next', 'Standing', 'next'), ('turns', 'further_lots', 'Standing', 'further_lots'), ('filling', 'fill_match', 'Supply', 'fill_match'),
     ('matched', 'usable_lots', 'Basket', 'usable_lots'), ('matched', 'fill_next', 'Basket', 'fill_next'),
     ('records', 'write_match', 'Lists', 'add_match'), ('records', 'write_line', 'Lists', 'add_line'),
-    ('ranges', 'rows_at_most', 'Rows', 'at_most'), ('opening', 'copy_rows', 'Rows', 'copy_to'),
+    ('opening', 'copy_rows', 'Rows', 'copy_to'),
 ]
 MOVED = {('opening', 'copy_rows'): 'rows'}
 with tempfile.TemporaryDirectory() as old:
