@@ -92,11 +92,12 @@ pub fn is_code(code: &[u64]) -> bool
     of_japan(code) && is_isin(code)
 }
 
-// Does a stand before b, by the first cell in which they differ?
+// Does a stand before b, by the first cell in which they differ? `cmp` passes equal cells in groups: by `<`, one by one, soundness
+// of a day of 11 participants takes more instructions than the fast reference, 20,117 for 19,884.
 pub fn stands_before(a: &[u64], b: &[u64]) -> bool
     ensures { result ≡ before a.now b.now }
 {
-    a < b
+    a.cmp(b).is_lt()
 }
 
 // Is each of the codes one, and do they rise strictly? They stand one after the other.
