@@ -4,6 +4,7 @@ use crate::answers::Unread;
 use std::alloc::{AllocError, Global};
 use std::fmt;
 
+// Not one with the number of `filling_cases`, which has a limit of its own and no reason to tell.
 pub fn number(word: &[u8]) -> Result<u64, Unread> {
     words::number(word).ok_or(Unread::WrongWord)
 }

@@ -63,6 +63,7 @@ impl Case<'_> {
         order
     }
 
+    // Rates and lots stand in memory of a day's most issues, as what calls the library lends them.
     fn fill(&self, lots: &mut [u64]) -> Filling
         requires { lots.old ≡ zeros (length self.now.usable.items) }
     {

@@ -49,7 +49,8 @@ fn clear_notices(book: &mut [u64])
     }
 }
 
-// A run on a sound book, with a right draw and lists that are long enough.
+// A run on a sound book, with a right draw and lists that are long enough. The book stays a slice, as the C interface lends it, and is written
+// between: each function that reads its sizes asks for them.
 pub fn run(book: &mut [u64], draw: &[u64], matches: &mut [u64], lines: &mut [u64]) -> Counts
     requires { Start book.old draw.now matches.old lines.old }
     ensures { Ran book.old draw.now matches.old lines.old book.new matches.new lines.new result.matches result.lines }
