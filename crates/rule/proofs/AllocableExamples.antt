@@ -3,17 +3,16 @@ use mathlib.Core.Path.{◌≡◌, refl}
 use Prim.Native.Nat.{ℕ}
 use mathlib.Core.List.{List, [], ◌∷◌}
 use Rattle.rule.specs.Day.{Day}
-use Rattle.rule.specs.Calls.{trade_day, notice_day}
-use Rattle.rule.specs.WorkedDays.{Outcome, outcome}
-use Rattle.rule.proofs.ExampleDays.{issue, open_issues, after_runs}
-use Rattle.rule.proofs.DayRule.{day_rule}
+use Rattle.rule.proofs.DayCalls.{trade_day, notice_day}
+use Rattle.rule.proofs.ExampleDays.{Handed, outcome, issue, open_issues, after_runs}
+use Rattle.rule.proofs.WholeRule.{whole_rule}
 
 abbrev draw : List ℕ
 draw = 0 ∷ 1 ∷ []
 
 -- after some runs participant 0 notifies lots of issue 0 and sells 100,000 yen, two lots, in basket C; issue 1 is unmarked, so that the
 -- basket can be traded. Issue 0 has the marks given, and its scheduled receipt
-unfoldable window : ℕ → List ℕ → ℕ → ℕ → Outcome
+unfoldable window : ℕ → List ℕ → ℕ → ℕ → Handed
 window runs terms notified scheduled =
     let y : Day = after_runs runs draw (open_issues 2 (terms ∷ issue 2 0 0 ∷ []) (scheduled ∷ 0 ∷ 0 ∷ 0 ∷ [])) in
     outcome (trade_day (notice_day y 0 (0 ∷ []) (notified ∷ [])).1 0 1 2 100000).1 draw
@@ -32,7 +31,7 @@ abbrev two : List (List ℕ)
 two = (0 ∷ 0 ∷ 2 ∷ []) ∷ []
 
 -- participant 0 of three has a scheduled receipt of issue 1, notifies that and sells a lot's worth
-unfoldable receipt_of_one : Outcome
+unfoldable receipt_of_one : Handed
 receipt_of_one =
     let y : Day = open_issues 3 (plain ∷ plain ∷ []) (0 ∷ 3 ∷ 0 ∷ 0 ∷ 0 ∷ 0 ∷ []) in
     outcome (trade_day (notice_day y 0 (1 ∷ []) (3 ∷ [])).1 0 1 2 50000).1 (0 ∷ 1 ∷ 2 ∷ [])
@@ -61,7 +60,7 @@ record Windows : Type 0 where
   receipt : receipt_of_one.lines ≡ (0 ∷ 1 ∷ 1 ∷ []) ∷ []
 
 windows : Windows
-unfolding day_rule outcome window receipt_of_one
+unfolding whole_rule outcome window receipt_of_one
 windows = record {
   run1 = refl;
   run1_scheduled = refl;

@@ -4,10 +4,10 @@ use Prim.Native.Nat.{ℕ}
 use mathlib.Core.List.{List, [], ◌∷◌}
 use Rattle.lists.specs.Tables.{zeros, table}
 use Rattle.rule.specs.Day.{Day}
-use Rattle.rule.specs.Calls.{Reply, accepted, refused, trade_day, notice_day}
-use Rattle.rule.specs.WorkedDays.{outcome}
-use Rattle.rule.proofs.ExampleDays.{issue, open_issues}
-use Rattle.rule.proofs.DayRule.{day_rule}
+use Rattle.rule.specs.Calls.{Reply, accepted, refused}
+use Rattle.rule.proofs.DayCalls.{trade_day, notice_day}
+use Rattle.rule.proofs.ExampleDays.{outcome, issue, open_issues}
+use Rattle.rule.proofs.WholeRule.{whole_rule}
 
 -- a trade in basket k, on a day with one issue
 abbrev trade : ℕ → List ℕ → Reply
@@ -43,5 +43,5 @@ record Compositions : Type 0 where
   outside : (outcome floating_notified (0 ∷ 1 ∷ [])).lines ≡ (0 ∷ 1 ∷ 1 ∷ []) ∷ []
 
 compositions : Compositions
-unfolding day_rule outcome
+unfolding whole_rule outcome
 compositions = record { kinds = refl; redeemed = refl; interest = refl; both = refl; outside = refl }

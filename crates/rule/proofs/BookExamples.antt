@@ -11,7 +11,7 @@ use Rattle.rule.specs.Answers.{number_of, told_run}
 use Rattle.rule.specs.Layout.{codes_at, terms_at, receipts_at, positions_at, notices_at, today_at, tally_at, book_length, open_of, trade_of, notice_of, run_of, close_of}
 use Rattle.rule.specs.declared.Refusal.TheVariants.{WrongSize, WrongCode, WrongTerm, WrongReceiptOrPair, UnsoundBook, ThreeRunsDone, NotOfDay, WrongAmount, NoUnmarkedIssue, PositionTooLarge, TooManyTrades, WrongEntry, TooManyLots, WrongDraw, ShortList, FewerThanThreeRuns}
 use Rattle.rule.proofs.ExampleDays.{on_book, codes, issue}
-use Rattle.rule.proofs.DayRule.{day_rule}
+use Rattle.rule.proofs.WholeRule.{book_rule}
 
 -- a book of two participants and one issue after some runs, with rows at their places
 unfoldable book : ℕ → List (ℕ × List ℕ) → List ℕ
@@ -62,7 +62,7 @@ record Books : Type 0 where
   counted : told_run (Ok (record { matches = 3; lines = 5 })) ≡ counts 3 5
 
 books : Books
-unfolding day_rule book closed ran reopened
+unfolding book_rule book closed ran reopened
 books = record {
   opening = refl;
   trade = refl;

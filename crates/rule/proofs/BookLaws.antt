@@ -1,20 +1,22 @@
 -- What a sound book shows to a call that has asked. Assumes nothing.
-use mathlib.Core.Path.{◌≡◌, ap, ◌∙◌}
+use mathlib.Core.Path.{◌≡◌, sym, ap, ◌∙◌}
 use Prim.Native.Nat.{ℕ, ◌+◌, ◌*◌, ◌<◌}
 use native.Mathlib.Omega.{arith}
 use mathlib.Core.Bool.{true}
 use mathlib.Core.List.{List}
 use lib.ListN.{length, get_or}
+use lib.Seq.{ext_get_or}
 use lib.Dec.{eqb}
 use borrow.Author.Tests.{eqb-true}
-use Rattle.lists.specs.Tables.{cell}
+use Rattle.lists.specs.Tables.{table, row, cell}
 use Rattle.lists.specs.Parts.{grid}
 use Rattle.lists.proofs.TestLaws.{and_left, and_right}
+use Rattle.lists.proofs.TableLaws.{length-table, get_or-table}
 use Rattle.lists.proofs.PartLaws.{grid-get, grid-shape}
 use Rattle.rule.specs.Sound.{sound}
 use Rattle.rule.specs.Layout.{positions_at, book_length, plus, minus, view, book_fits, sound_book}
 use Rattle.rule.proofs.SoundLaws.{Sizes, sizes-of, SoundDay, sound-facts}
-use Rattle.rule.proofs.LayoutLaws.{Readable, map-cell}
+use Rattle.rule.proofs.LayoutLaws.{Readable, map-cell, view-shaped}
 
 pub record SoundBook (b : List ℕ) : Type 0 where
   pub readable : Readable b
@@ -36,6 +38,11 @@ sound-book b words h =
       sizes = z;
     }
 
+-- a list by its cells
+table_of : (l : List ℕ) (n : ℕ) (f : ℕ → ℕ) → length l ≡ n → ((i : ℕ) → i < n → get_or l i 0 ≡ f i) → l ≡ table n f
+table_of l n f e h =
+    ext_get_or 0 l (table n f) (e ∙ sym (length-table n f)) (λ i k. h i (omega arith) ∙ sym (get_or-table n f i 0 (omega arith)))
+
 module _ (b : List ℕ) (r : Readable b) where
   -- a position in the book
   pub view-owed : (k p : ℕ) → k < 7 → p < get_or b 0 0 → cell (view b).state.owed k p ≡ plus (get_or b (positions_at + 12 * k + p) 0)
@@ -49,3 +56,21 @@ module _ (b : List ℕ) (r : Readable b) where
   view-due k p l h =
       map-cell minus (grid b positions_at 12 7 (get_or b 0 0)) 7 (get_or b 0 0) k p (grid-shape b positions_at 12 7 (get_or b 0 0) r.few (omega (arith, r.size))) l h
       ∙ ap minus (grid-get b positions_at 12 7 (get_or b 0 0) k p l h)
+
+  -- a basket's positions, at their places
+  module _ (k : ℕ) (l : k < 7) where
+    row-size : length (row (view b).state.owed k) ≡ get_or b 0 0
+    unfolding view
+    row-size = (view-shaped b r).owed.cells k l
+
+    due_size : length (row (view b).state.due k) ≡ get_or b 0 0
+    unfolding view
+    due_size = (view-shaped b r).due.cells k l
+
+    pub row-owed : row (view b).state.owed k ≡ table (get_or b 0 0) (λ p. plus (get_or b (positions_at + 12 * k + p) 0))
+    row-owed =
+        table_of (row (view b).state.owed k) (get_or b 0 0) (λ p. plus (get_or b (positions_at + 12 * k + p) 0)) row-size (λ p h. view-owed k p l h)
+
+    pub row-due : row (view b).state.due k ≡ table (get_or b 0 0) (λ p. minus (get_or b (positions_at + 12 * k + p) 0))
+    row-due =
+        table_of (row (view b).state.due k) (get_or b 0 0) (λ p. minus (get_or b (positions_at + 12 * k + p) 0)) due_size (λ p h. view-due k p l h)

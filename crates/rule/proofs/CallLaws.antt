@@ -14,7 +14,7 @@ use Rattle.lists.proofs.TestLaws.{and_left, and_right, all-at, both_ways}
 use Rattle.lists.proofs.TableLaws.{length-zeros}
 use Rattle.rule.specs.Day.{Day, given_of, opened, traded, noticed}
 use Rattle.rule.specs.Sound.{position_limit, notice_limit}
-use Rattle.rule.specs.Calls.{Reply, accepted, counts, refused, answer, open_checks, refusal, trade_checks, notice_checks}
+use Rattle.rule.specs.Calls.{Reply, accepted, counts, refused, answer, open_checks, refusal, trade_checks, distinct, notice_checks}
 use Rattle.rule.specs.Layout.{book_length, view, stored, book_fits, sound_book, open_of, trade_of, notice_of}
 use Rattle.rule.proofs.SoundLaws.{SoundDay, facts-sound}
 use Rattle.rule.proofs.LayoutLaws.{Shaped, Signed, Signs, length-stored, view-stored, view-shaped, view-signed}
@@ -179,6 +179,13 @@ module _ (b : List ℕ) (words : (j : ℕ) → get_or b j 0 < 184467440737095516
         named = λ j l. ltb-true _ _ (all-at (λ j. ltb (get_or issues j 0) (view b).given.issues) (length issues) (not-false _ f.1.1.1.1.0) j l);
         few = λ j l. leb-true _ _ (all-at (λ j. leb (get_or lots j 0) notice_limit) (length lots) (not-false _ f.1.1.1.1.1.1.0) j (omega arith));
       }
+
+  -- no issue is named twice
+  pub notice-once : (notice_of b p issues lots).0 ≡ accepted → distinct issues ≡ true
+  unfolding notice_of notice_checks
+  notice-once a =
+      let w : SoundBook b × (first (notice_checks (view b) p issues lots) ≡ 0) = was-sound b words (notice_checks (view b) p issues lots) (passed _ (stored b (noticed (view b) p issues lots)) b a) in
+      not-false _ (no_row (notice_checks (view b) p issues lots) refl w.1).1.1.1.1.1.0
 
   -- an accepted notice had a sound book, and passed every row
   pub notice-passed : (notice_of b p issues lots).0 ≡ accepted → SoundBook b × Noticeable (view b) p issues lots

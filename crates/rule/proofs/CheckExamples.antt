@@ -7,11 +7,11 @@ use Rattle.lists.specs.Tests.{first}
 use Rattle.lists.specs.Tables.{zeros, table}
 use Rattle.lists.specs.Folds.{joined}
 use Rattle.rule.specs.Day.{Day, with_trades}
-use Rattle.rule.specs.Calls.{Reply, accepted, counts, refused, open_checks, run_checks, close_checks, open_day, trade_day, notice_day, run_day, close_day}
+use Rattle.rule.specs.Calls.{Reply, accepted, counts, refused, open_checks, run_checks, close_checks}
 use Rattle.rule.specs.Layout.{book_length, open_of}
-use Rattle.rule.specs.WorkedDays.{no_day}
-use Rattle.rule.proofs.ExampleDays.{codes, issue, open_issues, after_runs}
-use Rattle.rule.proofs.DayRule.{day_rule}
+use Rattle.rule.proofs.DayCalls.{open_day, trade_day, notice_day, run_day, close_day}
+use Rattle.rule.proofs.ExampleDays.{no_day, codes, issue, open_issues, after_runs}
+use Rattle.rule.proofs.WholeRule.{whole_rule, book_rule}
 
 -- ---- opening
 
@@ -69,7 +69,7 @@ record Openings : Type 0 where
   self : marks (zeros 27 ++ (1 ∷ [])) ≡ refused 4
 
 openings : Openings
-unfolding day_rule
+unfolding book_rule
 openings = record {
   sizes = refl;
   right = refl;
@@ -161,7 +161,7 @@ record Trades : Type 0 where
       (trade_day y 0 1 2 1).0 ∷ (notice_day y 0 (0 ∷ []) (0 ∷ [])).0 ∷ (run_day y draw).0 ∷ [] ≡ accepted ∷ accepted ∷ counts 0 0 ∷ []
 
 trades : Trades
-unfolding day_rule fresh done
+unfolding whole_rule fresh done
 trades = record {
   seller = refl;
   buyer = refl;
@@ -216,7 +216,7 @@ record Others : Type 0 where
   unsound : (notice_day no_day 9 [] []).0 ∷ (run_day no_day []).0 ∷ (close_day no_day).0 ∷ [] ≡ refused 5 ∷ refused 5 ∷ refused 5 ∷ []
 
 others : Others
-unfolding day_rule fresh done
+unfolding whole_rule fresh done
 others = record {
   participant = refl;
   no_entry = refl;

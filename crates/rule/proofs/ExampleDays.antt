@@ -1,13 +1,41 @@
--- Small days for examples, on tables: what they open; and how a book is worked out once. Assumes nothing.
-use Prim.Native.Nat.{ℕ, ◌+◌, ◌*◌, ◌/◌, ◌%◌}
+-- Small days for examples, on tables: what they open, and a run of them; and how a book is worked out once. Assumes nothing.
+use Prim.Native.Nat.{ℕ, ◌+◌, ◌-◌, ◌*◌, ◌/◌, ◌%◌}
 use mathlib.Core.List.{List, [], ◌∷◌, ◌++◌}
 use lib.ListN.{length}
 use Rattle.lists.specs.Tables.{zeros, table}
 use Rattle.lists.specs.Folds.{foldl, joined}
 use Rattle.rule.specs.Isin.{check_digit}
-use Rattle.rule.specs.Day.{Day, baskets}
-use Rattle.rule.specs.Calls.{open_day, run_day}
-use Rattle.rule.specs.WorkedDays.{no_day}
+use Rattle.rule.specs.Day.{Day, baskets, given_of, opened}
+use Rattle.rule.specs.Calls.{Reply}
+use Rattle.rule.specs.WorkedDays.{code0, code1, terms}
+use Rattle.rule.proofs.DayCalls.{open_day, trade_day, notice_day, run_day}
+
+-- the day that stands before the opening
+abbrev pub no_day : Day
+no_day = opened (given_of 0 0 [] [] [] [])
+
+-- an opening of n participants and two issues, in which participant 0 has scheduled receipts, with no pairs
+unfoldable pub open_with : ℕ → List ℕ → List ℕ → Reply × Day
+open_with n issue_terms scheduled =
+    open_day no_day n 2 (code0 ++ code1) (issue_terms ++ issue_terms) (scheduled ++ zeros (2 * (n - 1))) (zeros (baskets * (n * n)))
+
+-- what a run answers and hands out
+pub record Handed : Type 0 where
+  pub reply : Reply
+  pub matches : List (List ℕ)
+  pub lines : List (List ℕ)
+
+unfoldable pub outcome : Day → List ℕ → Handed
+outcome y draw = let r : Reply × (Day × List (List ℕ) × List (List ℕ)) = run_day y draw in record { reply = r.0; matches = r.1.1; lines = r.1.2 }
+
+-- participant 0 notifies lots of issues 0 and 1 and sells yen of basket C to participant 1
+unfoldable pub sale : List ℕ → List ℕ → List ℕ → ℕ → Handed
+sale issue_terms notified scheduled yen =
+    outcome (trade_day (notice_day (open_with 2 issue_terms scheduled).1 0 (0 ∷ 1 ∷ []) notified).1 0 1 2 yen).1 (0 ∷ 1 ∷ [])
+
+-- price 10,000, scheduled as notified
+unfoldable pub plain_sale : ℕ → ℕ → ℕ → Handed
+plain_sale lots0 lots1 yen = sale (terms 10000 0 0) (lots0 ∷ lots1 ∷ []) (lots0 ∷ lots1 ∷ []) yen
 
 -- ---- days of any issues
 

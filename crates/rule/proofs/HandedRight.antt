@@ -1,5 +1,5 @@
 -- Demand 2 of an accepted run: what its matches and lines show. Assumes nothing.
-use mathlib.Core.Path.{◌≡◌, refl, sym, ap, ◌∙◌, subst}
+use mathlib.Core.Path.{◌≡◌, refl, sym, ap, ap₂, ◌∙◌, subst}
 use mathlib.Core.Logic.{◌⊎◌, inl, inr}
 use Prim.Native.Nat.{ℕ, zero, suc, ◌+◌, ◌-◌, ◌≤◌, ◌<◌}
 use native.Mathlib.Nat.{not-suc-le-zero, le_of_suc-le-suc}
@@ -24,11 +24,12 @@ use Rattle.rule.specs.Run.{Allocation, used, allocable_of, allocations, line_lis
 use Rattle.rule.specs.Claims.{MatchEntry, LineEntry, line_of, no_match_entry, no_line_entry, lots_in, used_before, usable_in, MatchHolds, RunHolds}
 use Rattle.lists.proofs.FoldLaws.{every-at}
 use Rattle.rule.proofs.SumLaws.{total-map, total-same}
-use Rattle.rule.proofs.FilledLaws.{Fewest}
+use Rattle.rule.proofs.FilledLaws.{covered-all, Fewest}
 use Rattle.rule.proofs.RunLaws.{Runnable, Allocated, allocated, few-allocations, matched-from, matched_to}
 use Rattle.rule.proofs.RunLists.{no_allocation, Ordered, LineBefore, lines-ordered, lots_if, Line, few_lines, line-right, line-lots, all-issues}
 use Rattle.rule.proofs.UsableLaws.{Fills, Forced, usable_after, run-fills}
 use Rattle.rule.proofs.HandedLaws.{entry_of, used-before}
+use Rattle.rule.proofs.ClaimLaws.{quantity-is, covered-short}
 
 -- a read that is not past the end does not depend on what one gives
 get_d_any : {A : Type 0} (xs : List A) (i : ℕ) (c d : A) → i < length xs → get_or xs i c ≡ get_or xs i d
@@ -57,7 +58,8 @@ match-holds y a u e few r f =
       receiver = r.receiver;
       apart = r.apart;
       some = r.positive;
-      short = f.short;
+      enough = λ h. enough h (dec_lt y.state.runs 2);
+      short = λ early h. rw (f.short early) (covered-short a.match.amount (worth ts u));
       third = r.third;
       reached = subst (λ (l : List ℕ). m.covered ≤ worth ts l) same r.enough;
       needed = λ some.
@@ -73,6 +75,10 @@ match-holds y a u e few r f =
           let g : Forced ts u a.match.amount y.state.runs m = f.forced some in
           (omega (arith, g.third), g.short, λ i l. omega (arith, at i l, ap (λ (x : List ℕ). get_or x i 0) g.all));
     }
+  where
+    enough : a.match.amount ≤ worth y.given.terms u → Dec (y.state.runs < 2) → a.filled.covered ≡ a.match.amount
+    enough h (yes early) = f.short early ∙ covered-all a.match.amount (worth y.given.terms u) h
+    enough h (no late) = r.third (omega arith)
 
 module _ (y : Day) (draw : List ℕ) (h : Runnable y draw) where
   abbrev done : List Allocation
@@ -121,11 +127,12 @@ module _ (y : Day) (draw : List ℕ) (h : Runnable y draw) where
 
   -- what match j may use
   match-usable : (j : ℕ) → j < length done → usable_in y matches lines j ≡ usable_after y (take j done) (at j).basket (at j).match.deliverer
-  unfolding usable_in used_before
+  unfolding usable_in used_before allocable_of
   match-usable j l =
       rw (match-at j)
       (table-agree y.given.issues _ (λ i. pick (within (at j).basket (get_or y.given.terms i no_terms)) (allocable_of y (at j).match.deliverer i - used (take j done) (at j).match.deliverer i) 0)
-      (λ i k. ap (λ (x : ℕ). pick (within (at j).basket (get_or y.given.terms i no_terms)) (allocable_of y (at j).match.deliverer i - x) 0)
+      (λ i k. ap₂ (λ (q x : ℕ). pick (within (at j).basket (get_or y.given.terms i no_terms)) (q - x) 0)
+      (quantity-is y.state.runs (get_or y.given.terms i no_terms) _ _)
       (used-before done j (at j).match.deliverer i (omega arith) (all-issues y draw h i k))))
 
   match-right : (j : ℕ) (a : Allocation) → j < length done

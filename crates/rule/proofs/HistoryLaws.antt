@@ -1,27 +1,29 @@
 -- What holds after every list of calls on a day that was opened. Assumes nothing.
 use mathlib.Core.Path.{◌≡◌, sym, ap, ap₂, ◌∙◌, subst}
 use mathlib.Core.Logic.{◌≢◌, ◌⊎◌, inl, inr}
-use Prim.Native.Nat.{ℕ, ◌+◌, ◌≤◌, ◌<◌}
+use Prim.Native.Nat.{ℕ, ◌+◌, ◌*◌, ◌≤◌, ◌<◌}
 use native.Mathlib.Decide.{dec_lt}
 use native.Mathlib.Omega.{arith}
 use mathlib.Core.Bool.{true}
 use mathlib.Core.List.{List, [], ◌∷◌, ◌++◌}
 use lib.ListN.{length, get_or, length-append}
 use Rattle.lists.specs.Tests.{pick}
-use Rattle.lists.specs.Tables.{cell}
-use Rattle.lists.specs.Folds.{foldl, total}
+use Rattle.lists.specs.Tables.{table, cell}
+use Rattle.lists.specs.Folds.{foldl, total, sum}
 use Rattle.lists.proofs.FoldLaws.{foldl-append, total-append}
 use Rattle.rule.specs.Value.{no_terms}
 use Rattle.rule.specs.Allocable.{allocable}
 use Rattle.rule.specs.Day.{Given, Day, given_of, opened, traded, noticed}
 use Rattle.rule.specs.Run.{allocable_of, allocations, line_list}
 use Rattle.rule.specs.Calls.{Reply, accepted, counts, refused, run_reply}
-use Rattle.rule.specs.Layout.{view, sound_book, open_of, trade_of, notice_of, run_of, close_of}
-use Rattle.rule.specs.Claims.{Words, Call, trade, notice, run, close, Event, History, next, history, matches_of, lines_of, sold_in, bought_in, delivered_in, received_in, lots_by, forced_by, is_run, runs_in, notified_after, notified, allocable_then, EventHolds, HistoryHolds, StaysSound}
+use Rattle.rule.specs.Layout.{positions_at, plus, minus, signed, view, sound_book, open_of, trade_of, notice_of, run_of, close_of}
+use Rattle.rule.specs.Claims.{Words, Call, trade, notice, run, close, Event, History, next, history, matches_of, lines_of, sold_in, bought_in, delivered_in, received_in, lots_by, forced_by, is_run, runs_in, notified_after, notified, allocable_then, standing, EventHolds, HistoryHolds, StaysSound}
 use Rattle.rule.proofs.SplitLaws.{Within, last-split}
-use Rattle.rule.proofs.BookLaws.{SoundBook, sound-book}
+use Rattle.rule.proofs.LayoutLaws.{signed-split}
+use Rattle.rule.proofs.BookLaws.{SoundBook, sound-book, view-owed, view-due, row-owed, row-due}
+use Rattle.rule.proofs.ClaimLaws.{quantity-is}
 use Rattle.rule.proofs.OpenLaws.{zero-cell}
-use Rattle.rule.proofs.CallLaws.{opening-sound, trade-passed, trade-sound, notice-passed, notice-sound}
+use Rattle.rule.proofs.CallLaws.{opening-sound, trade-passed, trade-sound, notice-passed, notice-once, notice-sound}
 use Rattle.rule.proofs.TradeLaws.{Tradeable}
 use Rattle.rule.proofs.NoticeLaws.{Noticeable}
 use Rattle.rule.proofs.HandedLaws.{matches-are, lines_are}
@@ -40,7 +42,7 @@ pub record Kept (g : Given) (h : History) : Type 0 where
   pub sound : sound_book h.book ≡ true
   pub given : (view h.book).given ≡ g
   pub runs : (view h.book).state.runs ≡ runs_in h.events
-  pub notices : (p i : ℕ) → p < g.participants → i < g.issues → cell (view h.book).state.notices p i ≡ notified g.issues h.events p i
+  pub notices : (p i : ℕ) → p < g.participants → i < g.issues → cell (view h.book).state.notices p i ≡ notified h.events p i
   pub conserved : (k p : ℕ) → k < 7 → p < g.participants
       → total (sold_in k p) h.events + total (received_in k p) h.events + cell (view h.book).state.due k p
       ≡ total (bought_in k p) h.events + total (delivered_in k p) h.events + cell (view h.book).state.owed k p
@@ -58,7 +60,9 @@ module _ (h : History) (e : Event) (b : List ℕ) (s : Step h.book e b) where
 
   allocable-is : Kept y.given h → (d i : ℕ) → d < y.given.participants → i < y.given.issues → allocable_of y d i ≡ allocable_then y.given h.events d i
   unfolding allocable_of allocable_then
-  allocable-is k d i l m = ap₂ (λ (r x : ℕ). allocable r (get_or y.given.terms i no_terms) x (cell y.given.receipts d i)) k.runs (k.notices d i l m)
+  allocable-is k d i l m =
+      ap₂ (λ (r x : ℕ). allocable r (get_or y.given.terms i no_terms) x (cell y.given.receipts d i)) k.runs (k.notices d i l m)
+      ∙ sym (quantity-is (runs_in h.events) (get_or y.given.terms i no_terms) _ _)
 
   -- with the day's own data
   kept-own : Kept y.given h → Kept y.given (more h e b)
@@ -69,8 +73,7 @@ module _ (h : History) (e : Event) (b : List ℕ) (s : Step h.book e b) where
     given = s.given;
     runs = omega (arith, s.runs, k.runs, total-more (λ e. pick (is_run e) 1 0) h.events e);
     notices = λ p i l m.
-        s.notices p i l m ∙ ap (λ (x : ℕ). notified_after y.given.issues p i x e) (k.notices p i l m)
-        ∙ sym (foldl-append (notified_after y.given.issues p i) h.events (e ∷ []) 0);
+        s.notices p i l m ∙ ap (λ (x : ℕ). notified_after p i x e) (k.notices p i l m) ∙ sym (foldl-append (notified_after p i) h.events (e ∷ []) 0);
     conserved = λ j p l m. omega (
       arith,
       k.conserved j p l m,
@@ -130,7 +133,7 @@ module _ (b : List ℕ) (words : Words b) (sound : sound_book b ≡ true) where
       (λ a.
       let h : SoundBook b × Noticeable (view b) p issues lots = notice-passed b words p issues lots a in
       let t : (view r.1 ≡ noticed (view b) p issues lots) × (sound_book r.1 ≡ true) = notice-sound b words p issues lots a in
-      noticed-step b r.1 h.0 p issues lots h.1 t.0 (notice-words b words p issues lots a) t.1)
+      noticed-step b r.1 h.0 p issues lots h.1 (notice-once b words p issues lots a) t.0 (notice-words b words p issues lots a) t.1)
       (refused-step b words sound c)
 
   run_step : (draw matches lines : List ℕ) → let r : Reply × (List ℕ × List ℕ × List ℕ) = run_of b draw matches lines in
@@ -197,18 +200,38 @@ module _ (g : Given) (h : History) (r : Kept g h) where
   book-sound : SoundBook h.book
   book-sound = sound-book h.book r.words r.sound
 
-  zero-after : runs_in h.events ≡ 3 → (k p : ℕ) → k < 7 → p < (view h.book).given.participants
-      → (cell (view h.book).state.owed k p ≡ 0) × (cell (view h.book).state.due k p ≡ 0)
+  -- the sizes are those of the opening
+  size_is : get_or h.book 0 0 ≡ g.participants
+  unfolding view
+  size_is = ap (λ (x : Given). x.participants) r.given
+
+  standing-owed : (k p : ℕ) → k < 7 → p < g.participants → cell (view h.book).state.owed k p ≡ plus (standing h.book k p)
+  standing-owed k p l q = view-owed h.book book-sound.readable k p l (omega (arith, size_is))
+
+  standing-due : (k p : ℕ) → k < 7 → p < g.participants → cell (view h.book).state.due k p ≡ minus (standing h.book k p)
+  standing-due k p l q = view-due h.book book-sound.readable k p l (omega (arith, size_is))
+
+  zero-after : 3 ≤ runs_in h.events → (k p : ℕ) → k < 7 → p < g.participants → standing h.book k p ≡ 0
+  unfolding view
   zero-after three k p l q =
-      let z : _ = book-sound.day.done (r.runs ∙ three) in
-      (omega (arith, z.0 k p l q), omega (arith, z.1 k p l q))
+      let z : _ = book-sound.day.done (omega (arith, r.runs, book-sound.day.runs)) in
+      let a : plus (standing h.book k p) ≡ 0 = omega (arith, z.0 k p l (omega (arith, size_is)), standing-owed k p l q) in
+      let c : minus (standing h.book k p) ≡ 0 = omega (arith, z.1 k p l (omega (arith, size_is)), standing-due k p l q) in
+      sym (signed-split (standing h.book k p) (r.words (positions_at + 12 * k + p))) ∙ ap₂ signed a c
+
+  even-places : (k : ℕ) → k < 7
+      → sum (table g.participants (λ p. plus (standing h.book k p))) ≡ sum (table g.participants (λ p. minus (standing h.book k p)))
+  even-places k l =
+      ap (λ (n : ℕ). sum (table n (λ p. plus (standing h.book k p)))) (sym size_is) ∙ ap sum (sym (row-owed h.book book-sound.readable k l))
+      ∙ book-sound.day.even k l
+      ∙ ap sum (row-due h.book book-sound.readable k l) ∙ ap (λ (n : ℕ). sum (table n (λ p. minus (standing h.book k p)))) size_is
 
   pub holds_kept : HistoryHolds g h
   holds_kept = record {
-    conserved = r.conserved;
-    even = book-sound.day.even;
+    conserved = λ k p l q. omega (arith, r.conserved k p l q, standing-owed k p l q, standing-due k p l q);
+    even = even-places;
     each = λ before after e q. (r.each before after e q).holds;
-    zero = λ three k p l q. zero-after three k p l (subst (λ (x : Given). p < x.participants) (sym r.given) q);
+    zero = zero-after;
   }
 
   pub sound-kept : StaysSound h

@@ -5,10 +5,11 @@ use mathlib.Core.List.{List, [], ◌∷◌, ◌++◌, map}
 use lib.ListN.{take}
 use Rattle.lists.specs.Tables.{zeros, zero_rows, row}
 use Rattle.rule.specs.Day.{Day}
-use Rattle.rule.specs.Calls.{Reply, accepted, counts, trade_day, notice_day, run_day, close_day}
-use Rattle.rule.specs.WorkedDays.{terms, Outcome, open_with, outcome, sale}
-use Rattle.rule.proofs.ExampleDays.{issue, open_pairs, open_issues, after_runs}
-use Rattle.rule.proofs.DayRule.{day_rule}
+use Rattle.rule.specs.Calls.{Reply, accepted, counts}
+use Rattle.rule.specs.WorkedDays.{terms}
+use Rattle.rule.proofs.DayCalls.{trade_day, notice_day, run_day, close_day}
+use Rattle.rule.proofs.ExampleDays.{Handed, open_with, outcome, sale, issue, open_pairs, open_issues, after_runs}
+use Rattle.rule.proofs.WholeRule.{whole_rule}
 
 abbrev two : List (List ℕ)
 two = issue 2 0 0 ∷ issue 2 0 0 ∷ []
@@ -27,7 +28,7 @@ notify a b y = (notice_day y 0 (0 ∷ 1 ∷ []) (a ∷ b ∷ [])).1
 -- ---- issue orders. Participant 0 has 9 and 9 lots scheduled and 5 and 4 notified. In basket C it uses 2 lots of issue 0, so that 3 and 4 are
 -- left; then it sells 4 lots' worth in basket D, with yesterday's pairs as given
 
-unfoldable two_baskets : List ℕ → Outcome
+unfoldable two_baskets : List ℕ → Handed
 two_baskets pairs =
     outcome (sell 3 200000 (sell 2 100000 (notify 5 4 (open_pairs 3 two (9 ∷ 9 ∷ zeros 4) pairs)))) draw
 
@@ -36,27 +37,27 @@ abbrev pair_in_d : List ℕ
 pair_in_d = zeros 28 ++ (1 ∷ zeros 34)
 
 -- in basket C to receivers 1 and 2, for 3 lots and 2
-unfoldable two_receivers : Outcome
+unfoldable two_receivers : Handed
 two_receivers = outcome (trade_day (sell 2 150000 (notify 5 4 (open_issues 3 two (9 ∷ 9 ∷ zeros 4)))) 0 2 2 100000).1 draw
 
 -- in run 1 1 lot of issue 0 is scheduled, so 1 and 5 may be used of 9 and 5 notified; a pair of yesterday in basket C
-unfoldable pair_by_smaller : Outcome
+unfoldable pair_by_smaller : Handed
 pair_by_smaller = outcome (sell 2 100000 (notify 9 5 (open_pairs 3 two (1 ∷ 9 ∷ zeros 4) (zeros 19 ++ (1 ∷ zeros 43))))) draw
 
 -- ---- baskets. An issue of kind 0 is in all of them: 4 lots notified, sold for yen in G and, later in the day, in A
 
-unfoldable bills : ℕ → ℕ → Outcome
+unfoldable bills : ℕ → ℕ → Handed
 bills in_g in_a = outcome (sell 0 in_a (sell 6 in_g (notice_day (open_issues 3 (issue 0 0 0 ∷ []) (9 ∷ zeros 2)) 0 (0 ∷ []) (4 ∷ [])).1)) draw
 
 -- participants 0 and 1 deliver the same issue, each its own lots
-unfoldable two_deliverers : Outcome
+unfoldable two_deliverers : Handed
 two_deliverers =
     let y : Day = open_issues 3 (issue 2 0 0 ∷ []) (3 ∷ 3 ∷ 0 ∷ []) in
     let notified : Day = (notice_day (notice_day y 0 (0 ∷ []) (3 ∷ [])).1 1 (0 ∷ []) (3 ∷ [])).1 in
     outcome (trade_day (trade_day notified 0 2 2 150000).1 1 2 2 100000).1 draw
 
 -- 0 and 1 sell to 2 in baskets C and D, 1 the less; a mark of 1 and 2 in basket D
-unfoldable pairs_of_d : Outcome
+unfoldable pairs_of_d : Handed
 pairs_of_d =
     let y : Day = open_pairs 3 two (zeros 6) (zeros 32 ++ (1 ∷ zeros 30)) in
     let in_c : Day = (trade_day (trade_day y 0 2 2 70).1 1 2 2 50).1 in
@@ -71,7 +72,7 @@ third =
     (trade_day (sell 2 150000 (notice_day y 2 (0 ∷ []) (9 ∷ [])).1) 0 2 2 140000).1
 
 -- 2 lots of issue 1 are worth just what is sold
-unfoldable just_enough : Outcome
+unfoldable just_enough : Handed
 just_enough = outcome (sell 2 100000 (notify 0 2 (after_runs 2 draw (open_issues 3 two (zeros 6))))) draw
 
 -- ---- close
@@ -146,7 +147,7 @@ record Runs : Type 0 where
   yen_pair : row (run_day one_yen draw).1.0.state.today 2 ≡ (0 ∷ 1 ∷ 0 ∷ []) ∷ (0 ∷ 0 ∷ 0 ∷ []) ∷ (0 ∷ 0 ∷ 0 ∷ []) ∷ []
 
 runs : Runs
-unfolding day_rule open_with outcome sale two_baskets two_receivers pair_by_smaller bills two_deliverers pairs_of_d third just_enough both_ways sold_back one_yen
+unfolding whole_rule open_with outcome sale two_baskets two_receivers pair_by_smaller bills two_deliverers pairs_of_d third just_enough both_ways sold_back one_yen
 runs = record {
   pair_order = refl;
   drawn_order = refl;

@@ -12,7 +12,7 @@ use Rattle.rule.specs.Sound.{sound}
 use Rattle.rule.specs.Layout.{terms_at, book_length, sound_book}
 use Rattle.rule.specs.WorkedDays.{wrong_code}
 use Rattle.rule.proofs.ExampleDays.{on_book, codes, issue, open_issues}
-use Rattle.rule.proofs.DayRule.{day_rule}
+use Rattle.rule.proofs.WholeRule.{book_rule}
 
 -- ---- what opening brought
 
@@ -125,7 +125,7 @@ record Soundness : Type 0 where
   notices_end : map (λ n. sound (notified n 1)) (2 ∷ 3 ∷ []) ≡ true ∷ false ∷ []
 
 soundness : Soundness
-unfolding day_rule fresh
+unfolding book_rule fresh
 soundness = record {
   length = refl;
   runs = refl;

@@ -17,13 +17,14 @@ use Rattle.lists.proofs.FoldLaws.{every_map}
 use Rattle.lists.proofs.TableLaws.{get_or-table}
 use Rattle.rule.specs.Day.{Day, notice_row, noticed, traded}
 use Rattle.rule.specs.Run.{Allocation, allocable_of, allocations, covered_from, covered_to, used, line_list, ran}
-use Rattle.rule.specs.Calls.{Reply, accepted, counts, refused, answer, refusal, trade_checks, notice_checks, run_checks, run_reply, close_checks}
+use Rattle.rule.specs.Calls.{Reply, accepted, counts, refused, answer, refusal, trade_checks, distinct, notice_checks, run_checks, run_reply, close_checks}
 use Rattle.rule.specs.Layout.{view, sound_book, trade_of, notice_of, run_of, close_of}
-use Rattle.rule.specs.Claims.{Words, MatchEntry, LineEntry, Call, trade, notice, run, close, Event, sold_in, bought_in, delivered_in, received_in, lots_by, forced_by, is_run, notified_after, line_of}
+use Rattle.rule.specs.Claims.{Words, MatchEntry, LineEntry, Call, trade, notice, run, close, Event, sold_in, bought_in, delivered_in, received_in, lots_by, forced_by, is_run, named, notified_after, line_of}
 use Rattle.rule.proofs.LayoutLaws.{Shaped, view-shaped}
 use Rattle.rule.proofs.BookLaws.{SoundBook}
 use Rattle.rule.proofs.TradeLaws.{Tradeable, owed2, due2, traded-owed, traded-due, owed-seller, due-seller, owed-buyer, due-buyer, owed-other, due-other, which}
 use Rattle.rule.proofs.NoticeLaws.{Noticeable}
+use Rattle.rule.proofs.ClaimLaws.{named-is}
 use Rattle.rule.proofs.OpenLaws.{zero-cell}
 use Rattle.rule.proofs.AnswerLaws.{granted}
 use Rattle.rule.proofs.HandedLaws.{entry_of, delivered-is, received_is, forced-none, no-forced, no-lots-from, no-line-lots, lots_are, lots-by}
@@ -41,7 +42,7 @@ pub record Step (a : List ℕ) (e : Event) (b : List ℕ) : Type 0 where
   pub given : (view b).given ≡ (view a).given
   pub runs : (view b).state.runs ≡ (view a).state.runs + pick (is_run e) 1 0
   pub notices : (p i : ℕ) → p < (view a).given.participants → i < (view a).given.issues
-      → cell (view b).state.notices p i ≡ notified_after (view a).given.issues p i (cell (view a).state.notices p i) e
+      → cell (view b).state.notices p i ≡ notified_after p i (cell (view a).state.notices p i) e
   -- positions move by what is sold and bought, delivered and received
   pub moved : (k p : ℕ) → k < 7 → p < (view a).given.participants
       → sold_in k p e + received_in k p e + cell (view b).state.due k p + cell (view a).state.owed k p
@@ -237,18 +238,20 @@ module _ (a b : List ℕ) (s : SoundBook a) (seller buyer k yen : ℕ) (h : Trad
 
 -- ---- an accepted notice
 
-module _ (a b : List ℕ) (s : SoundBook a) (q : ℕ) (issues lots : List ℕ) (h : Noticeable (view a) q issues lots) (v : view b ≡ noticed (view a) q issues lots) where
-  notice-row : (p i : ℕ)
+module _ (a b : List ℕ) (s : SoundBook a) (q : ℕ) (issues lots : List ℕ) (h : Noticeable (view a) q issues lots) (once : distinct issues ≡ true)
+    (v : view b ≡ noticed (view a) q issues lots) where
+  notice-row : (p i : ℕ) → i < (view a).given.issues
       → cell (set (view a).state.notices q (notice_row (view a).given.issues issues lots)) p i
-      ≡ pick (eqb q p) (get_or (notice_row (view a).given.issues issues lots) i 0) (cell (view a).state.notices p i)
-  notice-row p i = cases (ℕ_discrete p q)
+      ≡ pick (eqb q p) (named i issues lots) (cell (view a).state.notices p i)
+  notice-row p i l = cases (ℕ_discrete p q)
     where
       new : List ℕ
       new = notice_row (view a).given.issues issues lots
 
-      cases : Dec (p ≡ q) → cell (set (view a).state.notices q new) p i ≡ pick (eqb q p) (get_or new i 0) (cell (view a).state.notices p i)
+      cases : Dec (p ≡ q) → cell (set (view a).state.notices q new) p i ≡ pick (eqb q p) (named i issues lots) (cell (view a).state.notices p i)
       cases (yes e) =
           rw (e, get_or-set_same (view a).state.notices q new [] (omega (arith, (view-shaped a s.readable).notices.rows, h.sender)), eq-eqb q q refl)
+          (named-is issues lots once (view a).given.issues i l)
       cases (no ne) = rw (get_or-set_other (view a).state.notices q p new [] ne, ne_eqb q p (λ e. ne (sym e)))
 
   pub noticed-step : Words b → sound_book b ≡ true → Step a (event (notice q issues lots) accepted [] []) b
@@ -258,7 +261,7 @@ module _ (a b : List ℕ) (s : SoundBook a) (q : ℕ) (issues lots : List ℕ) (
     sound = sound;
     given = ap (λ (z : Day). z.given) v;
     runs = ap (λ (z : Day). z.state.runs) v ∙ omega arith;
-    notices = λ p i l m. ap (λ (z : Day). cell z.state.notices p i) v ∙ notice-row p i;
+    notices = λ p i l m. ap (λ (z : Day). cell z.state.notices p i) v ∙ notice-row p i m;
     moved = λ j p l m. omega (arith, ap (λ (z : Day). cell z.state.owed j p) v, ap (λ (z : Day). cell z.state.due j p) v);
     allocable = λ d i l m. zero-le;
     no_other = λ d i o. refl;

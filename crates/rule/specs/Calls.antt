@@ -1,12 +1,12 @@
--- Document 01, "Checks, by place", and the calls on a day: a check table for each, in the paper's order. Assumes nothing.
-use Rattle.std.specs.Prelude.{ℕ, zero, suc, ◌+◌, ◌-◌, ◌*◌, Bool, true, not, ◌&&◌, List, [], ◌∷◌, length, get_or, leb, ltb, eqb}
+-- Document 01, "Checks, by place": a check table for each call, in the paper's order, and what its answer is made of. Assumes nothing.
+use Rattle.std.specs.Prelude.{ℕ, zero, suc, ◌+◌, ◌-◌, ◌*◌, Bool, not, ◌&&◌, List, [], ◌∷◌, length, get_or, leb, ltb, eqb}
 use Rattle.lists.specs.Tests.{pick, all_below, first}
 use Rattle.lists.specs.Tables.{cell}
 use Rattle.lists.specs.Folds.{total}
 use Rattle.rule.specs.Isin.{codes_right}
-use Rattle.rule.specs.Day.{Given, State, Day, baskets, given_of, opened, traded, noticed}
-use Rattle.rule.specs.Run.{Allocation, allocations, ran, match_list, line_list}
-use Rattle.rule.specs.Sound.{sizes_fit, all_terms_fit, receipts_fit, marks_fit, tradable, position_limit, notice_limit, trade_limit, sound}
+use Rattle.rule.specs.Day.{Given, State, Day, baskets, given_of}
+use Rattle.rule.specs.Run.{Allocation, line_list}
+use Rattle.rule.specs.Sound.{sizes_fit, all_terms_fit, receipts_fit, marks_fit, tradable, position_limit, notice_limit, trade_limit}
 
 -- what a call answers: accepted, a run's counts of matches and lines, or "A refusal returns its number alone"
 pub data Reply : Type 0 where
@@ -39,10 +39,6 @@ open_checks book_fits n m codes terms receipts pairs =
     ∷ (4, not (receipts_fit n m g.receipts))
     ∷ (4, not (marks_fit n g.pairs))
     ∷ []
-
-unfoldable pub open_day : Day → ℕ → ℕ → List ℕ → List ℕ → List ℕ → List ℕ → Reply × Day
-open_day old n m codes terms receipts pairs =
-    answer (first (open_checks true n m codes terms receipts pairs)) accepted (opened (given_of n m codes terms receipts pairs)) old
 
 -- ---- every other call
 
@@ -79,9 +75,6 @@ trade_checks y seller buyer k yen =
     ∷ (11, leb trade_limit s.trades)
     ∷ []
 
-unfoldable pub trade_day : Day → ℕ → ℕ → ℕ → ℕ → Reply × Day
-trade_day y seller buyer k yen = answer (refusal (sound y) (trade_checks y seller buyer k yen)) accepted (traded y seller buyer k yen) y
-
 -- ---- notice
 
 -- no number stands twice in the list
@@ -100,9 +93,6 @@ notice_checks y p issues lots =
     -- "lots above 200,000,000 (0 is allowed)"
     ∷ (13, not (all_below (length lots) (λ j. leb (get_or lots j 0) notice_limit)))
     ∷ []
-
-unfoldable pub notice_day : Day → ℕ → List ℕ → List ℕ → Reply × Day
-notice_day y p issues lots = answer (refusal (sound y) (notice_checks y p issues lots)) accepted (noticed y p issues lots) y
 
 -- ---- run
 
@@ -137,12 +127,6 @@ run_checks y draw match_places line_places =
 unfoldable pub run_reply : List Allocation → Reply
 run_reply done = counts (length done) (length (line_list done))
 
--- with lists that are long enough
-unfoldable pub run_day : Day → List ℕ → Reply × (Day × List (List ℕ) × List (List ℕ))
-run_day y draw =
-    let done : List Allocation = allocations y draw in
-    answer (refusal (sound y) (run_checks y draw (match_size * most_matches) (line_size * most_lines))) (run_reply done) (ran y done, match_list done, line_list done) (y, [], [])
-
 -- ---- close
 
 unfoldable pub close_checks : Day → ℕ → ℕ → List (ℕ × Bool)
@@ -161,9 +145,3 @@ tomorrow_receipts y = y.state.delivered
 
 unfoldable pub tomorrow_pairs : Day → List (List (List ℕ))
 tomorrow_pairs y = y.state.today
-
--- with lists that are long enough
-unfoldable pub close_day : Day → Reply × (List (List ℕ) × List (List (List ℕ)))
-close_day y =
-    let n : ℕ = y.given.participants in
-    answer (refusal (sound y) (close_checks y (n * y.given.issues) (baskets * (n * n)))) accepted (tomorrow_receipts y, tomorrow_pairs y) ([], [])

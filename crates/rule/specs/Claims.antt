@@ -1,18 +1,17 @@
 -- Document 01, "We agree": the demands, as claims about what the calls answer, write and leave, for every book and every list of calls. They
 -- are proved in proofs/Demands.antt. Assumes nothing.
-use Rattle.std.specs.Prelude.{◌≡◌, ◌≢◌, ◌⊎◌, ℕ, suc, ◌+◌, ◌-◌, ◌*◌, ◌≤◌, ◌<◌, Bool, true, false, ◌&&◌, List, [], ◌∷◌, ◌++◌, map, length, get_or, take, eqb, ltb}
+use Rattle.std.specs.Prelude.{◌≡◌, ◌≢◌, ◌⊎◌, ℕ, suc, ◌+◌, ◌-◌, ◌*◌, ◌≤◌, ◌<◌, min, Bool, true, false, ◌&&◌, List, [], ◌∷◌, ◌++◌, map, length, get_or, take, eqb, ltb}
 use Rattle.lists.specs.Tests.{pick, member}
-use Rattle.lists.specs.Tables.{table, zeros, row, cell, less}
+use Rattle.lists.specs.Tables.{up_to, table, zeros, cell, less}
 use Rattle.lists.specs.Folds.{foldl, total, sum, keep}
 use Rattle.lists.specs.Parts.{grid, block}
-use Rattle.rule.specs.Value.{no_terms}
-use Rattle.rule.specs.Allocable.{allocable}
+use Rattle.rule.specs.Value.{Terms, no_terms}
 use Rattle.rule.specs.Baskets.{within}
-use Rattle.rule.specs.Filling.{worth, covered}
-use Rattle.rule.specs.Day.{Given, Day, baskets, given_of, notice_row}
-use Rattle.rule.specs.Run.{Allocation, allocable_of, allocations, line_list}
+use Rattle.rule.specs.Filling.{worth}
+use Rattle.rule.specs.Day.{Given, Day, baskets, given_of}
+use Rattle.rule.specs.Run.{Allocation, allocations, line_list}
 use Rattle.rule.specs.Calls.{Reply, accepted, counts, refused, match_size, line_size, most_matches, most_lines}
-use Rattle.rule.specs.Layout.{view, sound_book, open_of, trade_of, notice_of, run_of, close_of}
+use Rattle.rule.specs.Layout.{positions_at, plus, minus, view, sound_book, open_of, trade_of, notice_of, run_of, close_of}
 
 -- ---- demand 1: every call, whatever it is given, answers by the check table, and a refused one changes nothing
 
@@ -110,6 +109,12 @@ forced_by d i matches = total (λ m. pick (eqb m.deliverer d && eqb m.forced i) 
 abbrev pub Words : List ℕ → Type 0
 Words b = (j : ℕ) → get_or b j 0 < 18446744073709551616
 
+-- the allocable quantity, of an issue of these terms: "In run 1 it is the smaller of the notified lots and the scheduled receipt, and 0 for
+-- an issue redeemed on the following day. In runs 2 and 3 it is the notified lots, and 0 for an issue with either mark"
+unfoldable pub quantity : ℕ → Terms → ℕ → ℕ → ℕ
+quantity runs_done t notified scheduled =
+    pick (eqb runs_done 0) (pick (ltb 0 t.redeemed) 0 (min notified scheduled)) (pick (ltb 0 (t.redeemed + t.interest)) 0 notified)
+
 -- lots of issue i that match j's deliverer used in the matches before it: "Lots used earlier in the same run are gone; forced lots never
 -- count as used"
 unfoldable pub used_before : List MatchEntry → List LineEntry → ℕ → ℕ → ℕ
@@ -121,8 +126,19 @@ used_before matches lines j i =
 unfoldable pub usable_in : Day → List MatchEntry → List LineEntry → ℕ → List ℕ
 usable_in y matches lines j =
     let m : MatchEntry = get_or matches j no_match_entry in
+    let d : ℕ = m.deliverer in
     table y.given.issues (λ i.
-    pick (within m.basket (get_or y.given.terms i no_terms)) (allocable_of y m.deliverer i - used_before matches lines j i) 0)
+    let t : Terms = get_or y.given.terms i no_terms in
+    pick (within m.basket t)
+    (quantity y.state.runs t (cell y.state.notices d i) (cell y.given.receipts d i) - used_before matches lines j i) 0)
+
+-- of the matched yen these are covered, and the rest is the shortage "rounded up to 10,000,000 yen, at most the amount": as few times
+-- 10,000,000 yen as make it up; `-` stops at 0
+pub record Short (matched usable_worth covered : ℕ) : Type 0 where
+  pub times : ℕ
+  pub makes_up : matched - usable_worth ≤ 10000000 * times
+  pub no_more : 10000000 * times < matched - usable_worth + 10000000
+  pub rest : covered ≡ matched - 10000000 * times
 
 -- a match on day y, with what it may use and its lots, by issue, and the issue that was taken last
 pub record MatchHolds (y : Day) (m : MatchEntry) (usable lots : List ℕ) (last : ℕ) : Type 0 where
@@ -132,8 +148,10 @@ pub record MatchHolds (y : Day) (m : MatchEntry) (usable lots : List ℕ) (last 
   pub receiver : m.receiver < y.given.participants
   pub apart : m.deliverer ≢ m.receiver
   pub some : 0 < m.matched
-  -- "in runs 1 and 2 the shortage .. stays in both positions; the rest is the covered amount", in run 3 all of it
-  pub short : y.state.runs < 2 → m.covered ≡ covered m.matched (worth y.given.terms usable)
+  -- "If all usable lots are worth less than the amount, in runs 1 and 2 the shortage .. stays in both positions; the rest is the covered
+  -- amount"; else all of it is covered, and so it is in run 3
+  pub enough : m.matched ≤ worth y.given.terms usable → m.covered ≡ m.matched
+  pub short : y.state.runs < 2 → worth y.given.terms usable < m.matched → Short m.matched (worth y.given.terms usable) m.covered
   pub third : y.state.runs ≡ 2 → m.covered ≡ m.matched
   -- the lots are worth at least the covered amount, and where that is above 0 one lot fewer of the issue taken last is worth less
   pub reached : m.covered ≤ worth y.given.terms lots
@@ -271,23 +289,27 @@ is_run e = ran e.call && is_accepted e.reply
 unfoldable pub runs_in : List Event → ℕ
 runs_in events = total (λ e. pick (is_run e) 1 0) events
 
+-- lots of issue i in a notice's entries, "unnamed issues counting 0"; an accepted notice names no issue twice
+unfoldable pub named : ℕ → List ℕ → List ℕ → ℕ
+named i issues lots = total (λ j. pick (eqb (get_or issues j 0) i) (get_or lots j 0) 0) (up_to (length issues))
+
 -- "Notified lots are those of a participant's last accepted notice since the last accepted run, or since the opening before run 1; 0 if
--- none": of participant p and issue i, on a day of n issues
-unfoldable pub notified_after : ℕ → ℕ → ℕ → ℕ → Event → ℕ
-notified_after n p i before e = pick (is_accepted e.reply) (after e.call) before
+-- none": of participant p and issue i
+unfoldable pub notified_after : ℕ → ℕ → ℕ → Event → ℕ
+notified_after p i before e = pick (is_accepted e.reply) (after e.call) before
   where
     after : Call → ℕ
     after (trade seller buyer k yen) = before
-    after (notice q issues lots) = pick (eqb q p) (get_or (notice_row n issues lots) i 0) before
+    after (notice q issues lots) = pick (eqb q p) (named i issues lots) before
     after (run draw matches lines) = 0
     after (close receipts pairs) = before
 
-unfoldable pub notified : ℕ → List Event → ℕ → ℕ → ℕ
-notified n events p i = foldl (notified_after n p i) 0 events
+unfoldable pub notified : List Event → ℕ → ℕ → ℕ
+notified events p i = foldl (notified_after p i) 0 events
 
 -- "The allocable quantity follows from these and the opening data by the rule above, before any lot is used in that run"
 unfoldable pub allocable_then : Given → List Event → ℕ → ℕ → ℕ
-allocable_then g before d i = allocable (runs_in before) (get_or g.terms i no_terms) (notified g.issues before d i) (cell g.receipts d i)
+allocable_then g before d i = quantity (runs_in before) (get_or g.terms i no_terms) (notified before d i) (cell g.receipts d i)
 
 -- ---- demand 3: one claim about a whole list of calls
 
@@ -300,18 +322,23 @@ pub record EventHolds (g : Given) (before : List Event) (e : Event) : Type 0 whe
   -- nothing is forced before the third accepted run
   pub unforced : runs_in before < 2 → (d i : ℕ) → forced_by d i e.matches ≡ 0
 
--- of a day that was opened with g. "Of all this only the position standing is read from the book"
+-- "Of all this only the position standing is read from the book": participant p's in basket k, at its place. It is `plus` of it less `minus`
+-- of it
+abbrev pub standing : List ℕ → ℕ → ℕ → ℕ
+standing b k p = get_or b (positions_at + 12 * k + p) 0
+
+-- of a day that was opened with g
 pub record HistoryHolds (g : Given) (h : History) : Type 0 where
   -- sold yen less bought, less covered as deliverer, and covered as receiver, are the position standing
   pub conserved : (k p : ℕ) → k < baskets → p < g.participants
-      → total (sold_in k p) h.events + total (received_in k p) h.events + cell (view h.book).state.due k p
-      ≡ total (bought_in k p) h.events + total (delivered_in k p) h.events + cell (view h.book).state.owed k p
+      → total (sold_in k p) h.events + total (received_in k p) h.events + minus (standing h.book k p)
+      ≡ total (bought_in k p) h.events + total (delivered_in k p) h.events + plus (standing h.book k p)
   -- each basket's positions sum to zero
-  pub even : (k : ℕ) → k < baskets → sum (row (view h.book).state.owed k) ≡ sum (row (view h.book).state.due k)
+  pub even : (k : ℕ) → k < baskets
+      → sum (table g.participants (λ p. plus (standing h.book k p))) ≡ sum (table g.participants (λ p. minus (standing h.book k p)))
   pub each : (before after : List Event) (e : Event) → h.events ≡ before ++ (e ∷ after) → EventHolds g before e
-  -- after the third accepted run every position is zero
-  pub zero : runs_in h.events ≡ 3 → (k p : ℕ) → k < baskets → p < g.participants
-      → (cell (view h.book).state.owed k p ≡ 0) × (cell (view h.book).state.due k p ≡ 0)
+  -- once the third run is accepted every position is zero
+  pub zero : 3 ≤ runs_in h.events → (k p : ℕ) → k < baskets → p < g.participants → standing h.book k p ≡ 0
 
 unfoldable pub Demand3 : Type 0
 Demand3 = (n m : ℕ) (codes terms receipts pairs b : List ℕ) (calls : List Call)
