@@ -4,7 +4,7 @@
  *
  * Every call answers for all arguments: no number and no content of the memory that is lent is out of bounds for it. It returns
  *     ALLOCATION_ACCEPTED    it was done
- *     1 to 99                the number that the check table of document 01 gives the refusal; nothing was written
+ *     1 to 16                the number that the check table of document 01 gives the refusal; nothing was written
  * and an accepted run returns its two counts in one number, see allocation_run.
  *
  * A list is a pointer and a count of its numbers (of bytes, for codes). Any count is taken, and a count of 0 with any pointer.

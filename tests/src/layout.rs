@@ -21,6 +21,25 @@ pub const TODAY: usize = NOTICES + MOST_PARTICIPANTS * MOST_ISSUES;
 pub const TALLY: usize = TODAY + BASKETS * SQUARE;
 pub const LENGTH: usize = TALLY + MOST_PARTICIPANTS * MOST_ISSUES;
 
+/// A table of cells: its name, where it starts, and how many places it has each way; 7 of them are the baskets.
+pub type Table = (&'static str, usize, &'static [usize]);
+
+/// The tables of the book, in the order of document 01.
+pub const TABLES: [Table; 12] = [
+    ("participants", PARTICIPANTS, &[]),
+    ("issues", ISSUES, &[]),
+    ("codes", CODES, &[MOST_ISSUES, CODE]),
+    ("terms", TERMS, &[MOST_ISSUES, TERM]),
+    ("receipts", RECEIPTS, &[MOST_PARTICIPANTS, MOST_ISSUES]),
+    ("pairs", PAIRS, &[BASKETS, MOST_PARTICIPANTS, MOST_PARTICIPANTS]),
+    ("positions", POSITIONS, &[BASKETS, MOST_PARTICIPANTS]),
+    ("notices", NOTICES, &[MOST_PARTICIPANTS, MOST_ISSUES]),
+    ("runs", RUNS, &[]),
+    ("trades", TRADES, &[]),
+    ("today's pairs", TODAY, &[BASKETS, MOST_PARTICIPANTS, MOST_PARTICIPANTS]),
+    ("tally", TALLY, &[MOST_PARTICIPANTS, MOST_ISSUES]),
+];
+
 // the cells of the two lists that a run asks for
 pub const MATCH: usize = 7;
 pub const LINE: usize = 3;

@@ -56,11 +56,11 @@ pub fn book_length() -> usize {
     unsafe { exports::allocation_book_length() as usize }
 }
 
-/// 0 accepted, 1 to 99 a refusal, 2^32 + matches × 2^16 + lines a run.
+/// 0 accepted, 1 to 16 a refusal, 2^32 + matches × 2^16 + lines a run.
 fn reply(number: u64) -> Reply {
     match number {
         0 => Reply::Accepted,
-        1..=99 => Reply::Refused(number),
+        1..=16 => Reply::Refused(number),
         _ => {
             assert_eq!(number >> 32, 1, "{number} is no reply");
             Reply::Ran { matches: (number >> 16 & 0xffff) as usize, lines: (number & 0xffff) as usize }

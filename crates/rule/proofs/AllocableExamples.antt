@@ -1,7 +1,7 @@
 -- What may be used in each run: windows and marks, seen through the calls. By computation. Assumes nothing.
 use mathlib.Core.Path.{◌≡◌, refl}
 use Prim.Native.Nat.{ℕ}
-use mathlib.Core.List.{List, [], ◌∷◌}
+use mathlib.Core.List.{List, [], ◌∷◌, map}
 use Rattle.rule.specs.Day.{Day}
 use Rattle.rule.proofs.DayCalls.{trade_day, notice_day}
 use Rattle.rule.proofs.ExampleDays.{Handed, outcome, issue, open_issues, after_runs}
@@ -36,6 +36,12 @@ receipt_of_one =
     let y : Day = open_issues 3 (plain ∷ plain ∷ []) (0 ∷ 3 ∷ 0 ∷ 0 ∷ 0 ∷ 0 ∷ []) in
     outcome (trade_day (notice_day y 0 (1 ∷ []) (3 ∷ [])).1 0 1 2 50000).1 (0 ∷ 1 ∷ 2 ∷ [])
 
+-- 3 lots of each of two issues are scheduled and notified, and two lots' worth is sold
+abbrev of_two : List ℕ → List ℕ → Handed
+of_two first second =
+    let y : Day = open_issues 2 (first ∷ second ∷ []) (3 ∷ 3 ∷ 0 ∷ 0 ∷ []) in
+    outcome (trade_day (notice_day y 0 (0 ∷ 1 ∷ []) (3 ∷ 3 ∷ [])).1 0 1 2 100000).1 draw
+
 record Windows : Type 0 where
   -- "In run 1 it is the smaller of the notified lots and the scheduled receipt"
   run1 : (window 0 plain 3 3).lines ≡ two
@@ -46,6 +52,8 @@ record Windows : Type 0 where
   -- "and 0 for an issue redeemed on the following day"; the other mark does not bar it
   run1_redeemed : (window 0 redeemed 3 3).lines ≡ []
   run1_paying : (window 0 paying 3 3).lines ≡ two
+  -- each issue by its own marks
+  run1_other_redeemed : map (λ h. h.lines) (of_two redeemed plain ∷ of_two plain redeemed ∷ []) ≡ ((0 ∷ 1 ∷ 2 ∷ []) ∷ []) ∷ two ∷ []
   -- "In runs 2 and 3 it is the notified lots"
   run2 : (window 1 plain 3 0).lines ≡ two
   run2_notified : (window 1 plain 1 3).lines ≡ []
@@ -68,6 +76,7 @@ windows = record {
   run1_silent = refl;
   run1_redeemed = refl;
   run1_paying = refl;
+  run1_other_redeemed = refl;
   run2 = refl;
   run2_notified = refl;
   run2_redeemed = refl;

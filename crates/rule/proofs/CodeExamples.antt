@@ -27,6 +27,8 @@ ten = 74 ∷ 80 ∷ 48 ∷ 48 ∷ 48 ∷ 48 ∷ 48 ∷ 48 ∷ 48 ∷ 49 ∷ 48 �
 
 record Codes : Type 0 where
   isins : map is_isin (us ∷ au ∷ gb ∷ []) ≡ true ∷ true ∷ true ∷ []
+  -- the first two bytes of an ISIN are capitals: not 1S0378331000, not U10378331009
+  country : map is_isin (set (set us 0 49) 11 48 ∷ set (set us 1 49) 11 57 ∷ []) ≡ false ∷ false ∷ []
   -- "the first two bytes of a code are JP": not US, JQ0000000017, KP0000000015
   japanese : map is_code (japan 49 56 ∷ us ∷ (74 ∷ 81 ∷ 48 ∷ 48 ∷ 48 ∷ 48 ∷ 48 ∷ 48 ∷ 48 ∷ 48 ∷ 49 ∷ 55 ∷ []) ∷ (75 ∷ 80 ∷ 48 ∷ 48 ∷ 48 ∷ 48 ∷ 48 ∷ 48 ∷ 48 ∷ 48 ∷ 49 ∷ 53 ∷ []) ∷ [])
       ≡ true ∷ false ∷ false ∷ false ∷ []
@@ -51,6 +53,7 @@ codes : Codes
 unfolding number_rule
 codes = record {
   isins = refl;
+  country = refl;
   japanese = refl;
   twelve = refl;
   digits = refl;

@@ -7,7 +7,7 @@ use mathlib.Core.List.{List, [], ◌∷◌, map}
 use lib.ListN.{length}
 use Rattle.lists.specs.Tables.{zeros}
 use Rattle.rule.specs.Value.{Terms, value}
-use Rattle.rule.specs.Filling.{fill_drawn, fill_preferential, filled, covered, forced_issue}
+use Rattle.rule.specs.Filling.{worth, fill_drawn, fill_preferential, filled, covered, forced_issue}
 use Rattle.rule.proofs.NumberRule.{number_rule}
 
 abbrev of_kind : ℕ → Terms
@@ -21,12 +21,15 @@ pair = of_kind 2 ∷ of_kind 2 ∷ []
 abbrev drawn_lots : ℕ → ℕ → ℕ → List ℕ
 drawn_lots a b yen = (fill_drawn pair (a ∷ b ∷ []) (0 ∷ 1 ∷ []) yen).lots
 
--- at 30,000 and at 50,500 yen a lot; and with a coupon of 100 thousandths of a percent and a day of interest
+-- at a price; at 30,000 and at 50,500 yen a lot; and with a coupon of 100 thousandths of a percent and a day of interest
+abbrev priced : ℕ → Terms
+priced p = record { kind = 2; price = p; coupon = 0; days = 0; redeemed = 0; interest = 0 }
+
 abbrev cheap : Terms
-cheap = record { kind = 2; price = 6000; coupon = 0; days = 0; redeemed = 0; interest = 0 }
+cheap = priced 6000
 
 abbrev dear : Terms
-dear = record { kind = 2; price = 10100; coupon = 0; days = 0; redeemed = 0; interest = 0 }
+dear = priced 10100
 
 abbrev accruing : ℕ → Terms
 accruing p = record { kind = 2; price = p; coupon = 100; days = 1; redeemed = 0; interest = 0 }
@@ -38,9 +41,13 @@ record Fillings : Type 0 where
   -- "A preferential match walks the issues", "A drawn match has three passes"
   by_mark : map (λ mark. (filled 0 mark pair (150000 ∷ 120000 ∷ []) (0 ∷ 1 ∷ []) 0 10000000000).lots) (true ∷ false ∷ [])
       ≡ (150000 ∷ 50000 ∷ []) ∷ (100000 ∷ 100000 ∷ []) ∷ []
+  -- "the most units": two of issue 0, and one of issue 1
+  most_units : drawn_lots 250000 250000 15000000000 ≡ 200000 ∷ 100000 ∷ []
   -- the second takes what is under a unit: all of issue 0's, then the fewest of issue 1's
   remainders : drawn_lots 150000 120000 8000000000 ≡ 150000 ∷ 10000 ∷ []
   both_remainders : drawn_lots 130000 250000 12000000000 ≡ 130000 ∷ 110000 ∷ []
+  -- it goes up to the amount and not to the target, before more of issue 0 is taken
+  to_amount : drawn_lots 250000 50000 8000000000 ≡ 150000 ∷ 10000 ∷ []
   -- the third takes from what is left
   left_over : drawn_lots 120000 250000 14000000000 ≡ 120000 ∷ 160000 ∷ []
   -- a shortage of exactly 10,000,000 yen is not rounded further; of a yen more it is
@@ -53,13 +60,24 @@ record Fillings : Type 0 where
       ≡ record { covered = 9990000000; lots = 299834 ∷ 33166 ∷ []; last = 0; forced = 0; forced_lots = 0 }
   -- a unit of issue 0 does not fit the target, one of issue 1 does: the walk goes on
   misfit : (fill_drawn (dear ∷ of_kind 2 ∷ []) (150000 ∷ 100000 ∷ []) (0 ∷ 1 ∷ []) 5000000000).lots ≡ 0 ∷ 100000 ∷ []
+  -- "at or below the target": 100,000 lots with their interest are worth 13,698 yen more
+  above_target : (fill_drawn (accruing 10000 ∷ of_kind 2 ∷ []) (150000 ∷ 100000 ∷ []) (0 ∷ 1 ∷ []) 5000000000).lots ≡ 0 ∷ 100000 ∷ []
   -- "keep the match's value at or below the target": what issue 0 has counts
   match_value : drawn_lots 100000 200000 10000000000 ≡ 100000 ∷ 100000 ∷ []
+  -- "filling leaves both walks when the amount is reached": 1 lot at 150,000 yen is 149,999 yen too much, and no lot at 5,000 yen is given back for it
+  none_given_back : (fill_drawn (priced 30000 ∷ priced 1000 ∷ []) (10 ∷ 1000000 ∷ []) (0 ∷ 1 ∷ []) 5000000001).lots ≡ 1 ∷ 1000000 ∷ []
+  -- the issue of which lots were taken last
+  taken_last : map (λ yen. (fill_preferential pair (1 ∷ 5 ∷ []) (0 ∷ 1 ∷ []) yen).last) (50000 ∷ 50001 ∷ []) ≡ 0 ∷ 1 ∷ []
+  -- each issue is valued by its own terms
+  own_terms : worth (cheap ∷ dear ∷ []) (1 ∷ 1 ∷ []) ≡ 80500
   -- "Each issue within a match is valued on its total lots in that match": 100,000 lots of the first pass and 11,114 of the second have one interest of
   -- 15,221 yen, where 13,698 and 1,522 would be a yen less
   one_rounding : (fill_drawn (accruing 9000 ∷ []) (150000 ∷ []) (0 ∷ []) 5000145221).lots ≡ 111114 ∷ []
   -- 4 usable lots and 4 forced ones are worth 400,001 yen, interest 1; in two parts it would be 0
   forced_rounding : (filled 2 false (accruing 10000 ∷ []) (4 ∷ []) (0 ∷ []) 0 400001).forced_lots ≡ 4
+  -- "n × coupon × days ÷ 730 rounded down once": 365 × 2 ÷ 730 is a yen, and so is 365 × 3 ÷ 730
+  interest : map (λ d. value (record { kind = 2; price = 10000; coupon = 365; days = d; redeemed = 0; interest = 0 }) 1) (1 ∷ 2 ∷ 3 ∷ 4 ∷ [])
+      ≡ 50000 ∷ 50001 ∷ 50001 ∷ 50002 ∷ []
   -- "Kind 6 is valued on face too", and a bill's coupon counts as any
   kinds_alike : map (λ k. value (record { kind = k; price = 10000; coupon = 100; days = 1; redeemed = 0; interest = 0 }) 8) (0 ∷ 1 ∷ 2 ∷ 3 ∷ 4 ∷ 5 ∷ 6 ∷ [])
       ≡ 400001 ∷ 400001 ∷ 400001 ∷ 400001 ∷ 400001 ∷ 400001 ∷ 400001 ∷ []
@@ -74,16 +92,23 @@ fillings = record {
   whole_units = refl;
   walked = refl;
   by_mark = refl;
+  most_units = refl;
   remainders = refl;
   both_remainders = refl;
+  to_amount = refl;
   left_over = refl;
   exact_shortage = refl;
   small_shortage = refl;
   afresh = refl;
   misfit = refl;
+  above_target = refl;
   match_value = refl;
+  none_given_back = refl;
+  taken_last = refl;
+  own_terms = refl;
   one_rounding = refl;
   forced_rounding = refl;
+  interest = refl;
   kinds_alike = refl;
   carried = refl;
   forced_too = refl;

@@ -2,7 +2,7 @@
 use mathlib.Core.Path.{◌≡◌, refl}
 use Prim.Native.Nat.{ℕ}
 use mathlib.Core.List.{List, [], ◌∷◌, ◌++◌, map}
-use lib.ListN.{take}
+use lib.ListN.{take, drop}
 use Rattle.lists.specs.Tables.{zeros, zero_rows, row}
 use Rattle.rule.specs.Day.{Day}
 use Rattle.rule.specs.Calls.{Reply, accepted, counts}
@@ -44,6 +44,16 @@ two_receivers = outcome (trade_day (sell 2 150000 (notify 5 4 (open_issues 3 two
 unfoldable pair_by_smaller : Handed
 pair_by_smaller = outcome (sell 2 100000 (notify 9 5 (open_pairs 3 two (1 ∷ 9 ∷ zeros 4) (zeros 19 ++ (1 ∷ zeros 43))))) draw
 
+-- 5 and 4 notified by 0 and by 1 too: 0 sells 2 lots' worth in basket C, and 1 in basket D
+unfoldable others_used : Handed
+others_used =
+    let y : Day = notify 5 4 (open_issues 3 two (9 ∷ 9 ∷ 9 ∷ 9 ∷ 0 ∷ 0 ∷ [])) in
+    outcome (trade_day (trade_day (notice_day y 1 (0 ∷ 1 ∷ []) (5 ∷ 4 ∷ [])).1 0 2 2 100000).1 1 2 3 100000).1 draw
+
+-- a pair of yesterday in basket C, and 4 and 5 notified
+unfoldable pair_by_notified : Handed
+pair_by_notified = outcome (sell 2 100000 (notify 4 5 (open_pairs 3 two (9 ∷ 9 ∷ zeros 4) (zeros 19 ++ (1 ∷ zeros 43))))) draw
+
 -- ---- baskets. An issue of kind 0 is in all of them: 4 lots notified, sold for yen in G and, later in the day, in A
 
 unfoldable bills : ℕ → ℕ → Handed
@@ -55,6 +65,26 @@ two_deliverers =
     let y : Day = open_issues 3 (issue 2 0 0 ∷ []) (3 ∷ 3 ∷ 0 ∷ []) in
     let notified : Day = (notice_day (notice_day y 0 (0 ∷ []) (3 ∷ [])).1 1 (0 ∷ []) (3 ∷ [])).1 in
     outcome (trade_day (trade_day notified 0 2 2 150000).1 1 2 2 100000).1 draw
+
+-- 0 and 1 have scheduled and notify lots of an issue, and 1 sells 3 lots' worth
+unfoldable second_delivers : List ℕ → List ℕ → Handed
+second_delivers scheduled notified =
+    let y : Day = open_issues 3 (issue 2 0 0 ∷ []) (scheduled ++ (0 ∷ [])) in
+    let told : Day = (notice_day (notice_day y 0 (0 ∷ []) (take 1 notified)).1 1 (0 ∷ []) (drop 1 notified)).1 in
+    outcome (trade_day told 1 2 2 150000).1 draw
+
+-- 0 delivers its 2 lots to 1 in basket C, receives 2 from 1 in D, and has sold one more in E
+unfoldable sent_back : Handed
+sent_back =
+    let y : Day = open_issues 3 (issue 2 0 0 ∷ []) (2 ∷ 2 ∷ 0 ∷ []) in
+    let notified : Day = (notice_day (notice_day y 0 (0 ∷ []) (2 ∷ [])).1 1 (0 ∷ []) (2 ∷ [])).1 in
+    outcome (sell 4 50000 (trade_day (sell 2 100000 notified) 1 0 3 100000).1) draw
+
+-- in run 2 0 and 1 sell to 2 in basket C, 1 the less; a mark of 1 and 2
+unfoldable second_run : Handed
+second_run =
+    let y : Day = after_runs 1 draw (open_pairs 3 two (zeros 6) (zeros 23 ++ (1 ∷ zeros 39))) in
+    outcome (trade_day (trade_day y 0 2 2 70).1 1 2 2 50).1 draw
 
 -- 0 and 1 sell to 2 in baskets C and D, 1 the less; a mark of 1 and 2 in basket D
 unfoldable pairs_of_d : Handed
@@ -106,6 +136,10 @@ record Runs : Type 0 where
   drawn_order : (two_baskets (zeros 63)).lines ≡ (0 ∷ 0 ∷ 2 ∷ []) ∷ (1 ∷ 1 ∷ 4 ∷ []) ∷ []
   -- lots used in this basket are not deducted: issue 0 again, with 5 to 4
   same_basket : two_receivers.lines ≡ (0 ∷ 0 ∷ 3 ∷ []) ∷ (1 ∷ 0 ∷ 2 ∷ []) ∷ []
+  -- nor are those that another deliverer used: issue 0 for both
+  others_not_deducted : others_used.lines ≡ (0 ∷ 0 ∷ 2 ∷ []) ∷ (1 ∷ 0 ∷ 2 ∷ []) ∷ []
+  -- "larger notified lots first" for a preferential match: issue 1
+  pair_notified : pair_by_notified.lines ≡ (0 ∷ 1 ∷ 2 ∷ []) ∷ []
   -- "not larger allocable"
   pair_not_allocable : pair_by_smaller.lines ≡ (0 ∷ 0 ∷ 1 ∷ []) ∷ (0 ∷ 1 ∷ 1 ∷ []) ∷ []
   -- "Its target is the amount rounded down to a multiple of 5,000,000,000 yen": at 30,000 yen a lot one unit, of 3,000,000,000 yen, fits, where two
@@ -121,6 +155,13 @@ record Runs : Type 0 where
   -- "Lots used earlier in the same run are gone": 2 are left, and 3 are needed
   gone : (bills 150000 100000).lines ≡ (0 ∷ 0 ∷ 2 ∷ []) ∷ []
   own_lots : two_deliverers.lines ≡ (0 ∷ 0 ∷ 3 ∷ []) ∷ (1 ∷ 0 ∷ 2 ∷ []) ∷ []
+  -- 3 lots need 3 notified and 3 scheduled by the deliverer itself
+  own_notice : map (λ notified. (second_delivers (9 ∷ 9 ∷ []) notified).lines) ((3 ∷ 2 ∷ []) ∷ (2 ∷ 3 ∷ []) ∷ []) ≡ [] ∷ ((0 ∷ 0 ∷ 3 ∷ []) ∷ []) ∷ []
+  own_receipt : map (λ scheduled. (second_delivers scheduled (9 ∷ 9 ∷ [])).lines) ((3 ∷ 2 ∷ []) ∷ (2 ∷ 3 ∷ []) ∷ []) ≡ [] ∷ ((0 ∷ 0 ∷ 3 ∷ []) ∷ []) ∷ []
+  -- "Lots used earlier in the same run are gone", though as many were received
+  received_not_used : map (take 5) sent_back.matches ≡ (2 ∷ 0 ∷ 1 ∷ 100000 ∷ 100000 ∷ []) ∷ (3 ∷ 1 ∷ 0 ∷ 100000 ∷ 100000 ∷ []) ∷ (4 ∷ 0 ∷ 1 ∷ 50000 ∷ 0 ∷ []) ∷ []
+  -- "Run 1 first takes yesterday's pairs", run 2 does not
+  no_pairs : map (take 4) second_run.matches ≡ (2 ∷ 0 ∷ 2 ∷ 70 ∷ []) ∷ (2 ∷ 1 ∷ 2 ∷ 50 ∷ []) ∷ []
   -- "yesterday's pairs of that basket"; marks stand "by basket, deliverer, receiver"
   pairs_of_basket : map (take 4) pairs_of_d.matches
       ≡ (2 ∷ 0 ∷ 2 ∷ 70 ∷ []) ∷ (2 ∷ 1 ∷ 2 ∷ 50 ∷ []) ∷ (3 ∷ 1 ∷ 2 ∷ 50 ∷ []) ∷ (3 ∷ 0 ∷ 2 ∷ 70 ∷ []) ∷ []
@@ -147,16 +188,22 @@ record Runs : Type 0 where
   yen_pair : row (run_day one_yen draw).1.0.state.today 2 ≡ (0 ∷ 1 ∷ 0 ∷ []) ∷ (0 ∷ 0 ∷ 0 ∷ []) ∷ (0 ∷ 0 ∷ 0 ∷ []) ∷ []
 
 runs : Runs
-unfolding whole_rule open_with outcome sale two_baskets two_receivers pair_by_smaller bills two_deliverers pairs_of_d third just_enough both_ways sold_back one_yen
+unfolding whole_rule open_with outcome sale two_baskets two_receivers pair_by_smaller others_used pair_by_notified bills two_deliverers second_delivers sent_back second_run pairs_of_d third just_enough both_ways sold_back one_yen
 runs = record {
   pair_order = refl;
   drawn_order = refl;
   same_basket = refl;
+  others_not_deducted = refl;
+  pair_notified = refl;
   pair_not_allocable = refl;
   target = refl;
   a_first = refl;
   gone = refl;
   own_lots = refl;
+  own_notice = refl;
+  own_receipt = refl;
+  received_not_used = refl;
+  no_pairs = refl;
   pairs_of_basket = refl;
   used_included = refl;
   just_enough = refl;
