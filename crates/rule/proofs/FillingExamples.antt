@@ -128,6 +128,8 @@ record Forced : Type 0 where
   most : forced_issue 2 (paying 1 ∷ of_kind 4 ∷ of_kind 1 ∷ of_kind 2 ∷ of_kind 3 ∷ []) (9 ∷ 9 ∷ 5 ∷ 7 ∷ 7 ∷ []) ≡ 3
   -- of any kind
   most_of_kind_one : forced_issue 2 (of_kind 1 ∷ of_kind 2 ∷ []) (5 ∷ 3 ∷ []) ≡ 0
+  -- one lot is above 0
+  most_of_one : forced_issue 2 (of_kind 1 ∷ of_kind 2 ∷ []) (1 ∷ 0 ∷ []) ≡ 0
   -- "With none above 0": lots of issues that do not count are as none
   none_counts : forced_issue 2 (of_kind 1 ∷ of_kind 2 ∷ paying 2 ∷ of_kind 4 ∷ []) (0 ∷ 0 ∷ 9 ∷ 9 ∷ []) ≡ 1
   -- "the fifth largest ISIN among unmarked kind 2 issues": of six, of five, of four
@@ -139,4 +141,4 @@ record Forced : Type 0 where
 
 forced : Forced
 unfolding number_rule
-forced = record { most = refl; most_of_kind_one = refl; none_counts = refl; six = refl; five = refl; four = refl; other = refl }
+forced = record { most = refl; most_of_kind_one = refl; most_of_one = refl; none_counts = refl; six = refl; five = refl; four = refl; other = refl }

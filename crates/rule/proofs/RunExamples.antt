@@ -4,7 +4,7 @@ use Prim.Native.Nat.{ℕ}
 use mathlib.Core.List.{List, [], ◌∷◌, ◌++◌, map}
 use lib.ListN.{take, drop}
 use Rattle.lists.specs.Tables.{zeros, zero_rows, row}
-use Rattle.rule.specs.Day.{Day}
+use Rattle.rule.specs.Day.{State, Day}
 use Rattle.rule.specs.Calls.{Reply, accepted, counts}
 use Rattle.rule.specs.WorkedDays.{terms}
 use Rattle.rule.proofs.DayCalls.{trade_day, notice_day, run_day, close_day}
@@ -56,8 +56,11 @@ pair_by_notified = outcome (sell 2 100000 (notify 4 5 (open_pairs 3 two (9 ∷ 9
 
 -- ---- baskets. An issue of kind 0 is in all of them: 4 lots notified, sold for yen in G and, later in the day, in A
 
+unfoldable bills_sold : ℕ → ℕ → Day
+bills_sold in_g in_a = sell 0 in_a (sell 6 in_g (notice_day (open_issues 3 (issue 0 0 0 ∷ []) (9 ∷ zeros 2)) 0 (0 ∷ []) (4 ∷ [])).1)
+
 unfoldable bills : ℕ → ℕ → Handed
-bills in_g in_a = outcome (sell 0 in_a (sell 6 in_g (notice_day (open_issues 3 (issue 0 0 0 ∷ []) (9 ∷ zeros 2)) 0 (0 ∷ []) (4 ∷ [])).1)) draw
+bills in_g in_a = outcome (bills_sold in_g in_a) draw
 
 -- participants 0 and 1 deliver the same issue, each its own lots
 unfoldable two_deliverers : Handed
@@ -154,6 +157,9 @@ record Runs : Type 0 where
       }
   -- "Lots used earlier in the same run are gone": 2 are left, and 3 are needed
   gone : (bills 150000 100000).lines ≡ (0 ∷ 0 ∷ 2 ∷ []) ∷ []
+  -- "The covered yen leave both positions", each in its basket: those of A were covered, those of G were not
+  positions_left : let s : State = (run_day (bills_sold 150000 100000) draw).1.0.state in
+      s.owed ∷ s.due ∷ [] ≡ (zero_rows 6 3 ++ ((150000 ∷ 0 ∷ 0 ∷ []) ∷ [])) ∷ (zero_rows 6 3 ++ ((0 ∷ 150000 ∷ 0 ∷ []) ∷ [])) ∷ []
   own_lots : two_deliverers.lines ≡ (0 ∷ 0 ∷ 3 ∷ []) ∷ (1 ∷ 0 ∷ 2 ∷ []) ∷ []
   -- 3 lots need 3 notified and 3 scheduled by the deliverer itself
   own_notice : map (λ notified. (second_delivers (9 ∷ 9 ∷ []) notified).lines) ((3 ∷ 2 ∷ []) ∷ (2 ∷ 3 ∷ []) ∷ []) ≡ [] ∷ ((0 ∷ 0 ∷ 3 ∷ []) ∷ []) ∷ []
@@ -174,6 +180,9 @@ record Runs : Type 0 where
       }
   -- nothing is forced where all usable lots are worth just the amount: "both 0 if none"
   just_enough : just_enough.matches ≡ (2 ∷ 0 ∷ 1 ∷ 100000 ∷ 100000 ∷ 0 ∷ 0 ∷ []) ∷ []
+  -- "lots delivered, forced ones included, less lots received"
+  third_tally : let s : State = (run_day third draw).1.0.state in
+      s.delivered ∷ s.received ∷ [] ≡ ((2 ∷ 4 ∷ []) ∷ (0 ∷ 0 ∷ []) ∷ (0 ∷ 0 ∷ []) ∷ []) ∷ ((0 ∷ 0 ∷ []) ∷ (0 ∷ 3 ∷ []) ∷ (2 ∷ 1 ∷ []) ∷ []) ∷ []
   -- "the tally where positive, else 0", "forced ones included"; "covered above 0 today"
   third_close : close_day (after_runs 1 draw third)
       ≡ closed ((2 ∷ 4 ∷ []) ∷ (0 ∷ 0 ∷ []) ∷ (0 ∷ 0 ∷ []) ∷ []) ((0 ∷ 1 ∷ 1 ∷ []) ∷ (0 ∷ 0 ∷ 0 ∷ []) ∷ (0 ∷ 0 ∷ 0 ∷ []) ∷ []) none
@@ -188,7 +197,7 @@ record Runs : Type 0 where
   yen_pair : row (run_day one_yen draw).1.0.state.today 2 ≡ (0 ∷ 1 ∷ 0 ∷ []) ∷ (0 ∷ 0 ∷ 0 ∷ []) ∷ (0 ∷ 0 ∷ 0 ∷ []) ∷ []
 
 runs : Runs
-unfolding whole_rule open_with outcome sale two_baskets two_receivers pair_by_smaller others_used pair_by_notified bills two_deliverers second_delivers sent_back second_run pairs_of_d third just_enough both_ways sold_back one_yen
+unfolding whole_rule open_with outcome sale two_baskets two_receivers pair_by_smaller others_used pair_by_notified bills_sold bills two_deliverers second_delivers sent_back second_run pairs_of_d third just_enough both_ways sold_back one_yen
 runs = record {
   pair_order = refl;
   drawn_order = refl;
@@ -199,6 +208,7 @@ runs = record {
   target = refl;
   a_first = refl;
   gone = refl;
+  positions_left = refl;
   own_lots = refl;
   own_notice = refl;
   own_receipt = refl;
@@ -207,6 +217,7 @@ runs = record {
   pairs_of_basket = refl;
   used_included = refl;
   just_enough = refl;
+  third_tally = refl;
   third_close = refl;
   both_close = refl;
   back_close = refl;
