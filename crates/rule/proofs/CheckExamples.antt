@@ -9,6 +9,7 @@ use Rattle.lists.specs.Folds.{joined}
 use Rattle.rule.specs.Day.{Day, with_trades}
 use Rattle.rule.specs.Calls.{Reply, accepted, counts, refused, open_checks, run_checks, close_checks}
 use Rattle.rule.specs.Layout.{book_length, open_of}
+use Rattle.rule.specs.WorkedDays.{wrong_code}
 use Rattle.rule.proofs.DayCalls.{open_day, trade_day, notice_day, run_day, close_day}
 use Rattle.rule.proofs.ExampleDays.{no_day, codes, issue, open_issues, after_runs}
 use Rattle.rule.proofs.WholeRule.{whole_rule, book_rule}
@@ -51,6 +52,8 @@ record Openings : Type 0 where
   marks_length : lengths 12 6 2 27 ∷ lengths 12 6 2 29 ∷ [] ≡ 1 ∷ 1 ∷ []
   -- "or the book's length is wrong"
   book_length : booked (book_length - 1) ∷ booked book_length ∷ booked (book_length + 1) ∷ [] ≡ refused 1 ∷ accepted ∷ refused 1 ∷ []
+  -- which comes before the codes
+  book_first : (open_of 2 1 wrong_code (issue 2 0 0) (zeros 2) (zeros 28) (zeros (book_length - 1))).0 ≡ refused 1
   -- kinds to 6
   kind : second (issue 6 0 0) ∷ second (issue 7 0 0) ∷ [] ≡ accepted ∷ refused 3 ∷ []
   -- "price (.. 1,000 to 30,000)"
@@ -78,6 +81,7 @@ openings = record {
   receipts_length = refl;
   marks_length = refl;
   book_length = refl;
+  book_first = refl;
   kind = refl;
   price = refl;
   coupon = refl;

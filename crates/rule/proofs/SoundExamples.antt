@@ -63,9 +63,16 @@ ended runs = after runs no_positions no_positions no_pairs none none
 abbrev positions : ℕ → ℕ → ℕ → Day
 positions runs k j = with (after runs (set no_positions k (5 ∷ 0 ∷ 0 ∷ [])) (set no_positions j (0 ∷ 5 ∷ 0 ∷ [])) no_pairs none none)
 
--- in basket C
+abbrev in_basket : ℕ → List ℕ → List ℕ → Day
+in_basket k owed due = with (after 0 (set no_positions k owed) (set no_positions k due) no_pairs none none)
+
 abbrev in_c : List ℕ → List ℕ → Day
-in_c owed due = with (after 0 (set no_positions 2 owed) (set no_positions 2 due) no_pairs none none)
+in_c owed due = in_basket 2 owed due
+
+-- 0 owes 5 yen in basket k, due to 1, on a day on which each issue has a mark
+abbrev all_marked : ℕ → Day
+all_marked k =
+    record { given = (open_issues 3 (issue 2 0 1 ∷ issue 2 1 0 ∷ issue 0 0 1 ∷ []) (zeros 9)).given; state = (positions 0 k k).state }
 
 -- participant 2 delivered, or received, lots of issue 2
 abbrev delivered : ℕ → ℕ → Day
@@ -107,10 +114,11 @@ record Soundness : Type 0 where
   due : map sound (in_c (0 ∷ 5000000000000 ∷ 5000000000000 ∷ []) (10000000000000 ∷ 0 ∷ 0 ∷ []) ∷ in_c (0 ∷ 5000000000001 ∷ 5000000000000 ∷ []) (10000000000001 ∷ 0 ∷ 0 ∷ []) ∷ [])
       ≡ true ∷ false ∷ []
   -- "and sum to zero per basket": in C, in G; not over two baskets
-  sum : map sound (positions 0 2 2 ∷ positions 0 6 6 ∷ positions 0 2 6 ∷ positions 0 6 2 ∷ in_c (5 ∷ 0 ∷ 0 ∷ []) (0 ∷ 4 ∷ 0 ∷ []) ∷ [])
-      ≡ true ∷ true ∷ false ∷ false ∷ false ∷ []
+  sum : map sound (positions 0 2 2 ∷ positions 0 6 6 ∷ positions 0 2 6 ∷ positions 0 6 2 ∷ []) ≡ true ∷ true ∷ false ∷ false ∷ []
+  sum_alone : map (λ k. sound (in_basket k (5 ∷ 0 ∷ 0 ∷ []) (0 ∷ 4 ∷ 0 ∷ []))) (2 ∷ 6 ∷ []) ≡ false ∷ false ∷ []
   -- "a basket with a position has an unmarked issue": A has a marked one. With no position it needs none
   unmarked : map sound (positions 0 0 0 ∷ fresh ∷ []) ≡ false ∷ true ∷ []
+  all_marked : map (λ k. sound (all_marked k)) (2 ∷ 6 ∷ []) ≡ false ∷ false ∷ []
   -- "a tally is within 10^11 × runs done", either way
   tally_none : map sound (delivered 0 1 ∷ received 0 1 ∷ []) ≡ false ∷ false ∷ []
   tally_delivered : map (λ n. sound (delivered 1 n)) (100000000000 ∷ 100000000001 ∷ []) ≡ true ∷ false ∷ []
@@ -138,7 +146,9 @@ soundness = record {
   owed = refl;
   due = refl;
   sum = refl;
+  sum_alone = refl;
   unmarked = refl;
+  all_marked = refl;
   tally_none = refl;
   tally_delivered = refl;
   tally_received = refl;
