@@ -63,8 +63,8 @@ record Refusals : Type 0 where
   done6_run : (run_day done []).0 ≡ refused 6
   closed : (close_day done).0 ≡ accepted
   -- the draw: one twice, one missing, one too many, one not of the day
-  draws : map (λ d. each_once d 3) ((2 ∷ 0 ∷ 1 ∷ []) ∷ (2 ∷ 0 ∷ 0 ∷ []) ∷ (2 ∷ 0 ∷ []) ∷ (2 ∷ 0 ∷ 1 ∷ 3 ∷ []) ∷ (2 ∷ 0 ∷ 3 ∷ []) ∷ [])
-      ≡ true ∷ false ∷ false ∷ false ∷ false ∷ []
+  draws : map (λ d. each_once d 3) ((2 ∷ 0 ∷ 1 ∷ []) ∷ (2 ∷ 0 ∷ 0 ∷ []) ∷ (2 ∷ 0 ∷ []) ∷ (2 ∷ 0 ∷ 1 ∷ 3 ∷ []) ∷ (2 ∷ 0 ∷ 3 ∷ []) ∷ (3 ∷ 0 ∷ 1 ∷ []) ∷ [])
+      ≡ true ∷ false ∷ false ∷ false ∷ false ∷ false ∷ []
   -- equal notified lots: smaller ISIN
   tie : (plain_sale 2 2 120000).lines ≡ (0 ∷ 0 ∷ 2 ∷ []) ∷ (0 ∷ 1 ∷ 1 ∷ []) ∷ []
   -- before any opening no day is sound

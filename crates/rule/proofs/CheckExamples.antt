@@ -50,10 +50,9 @@ record Openings : Type 0 where
   terms_length : lengths 12 5 2 28 ∷ lengths 12 7 2 28 ∷ [] ≡ 1 ∷ 1 ∷ []
   receipts_length : lengths 12 6 1 28 ∷ lengths 12 6 3 28 ∷ [] ≡ 1 ∷ 1 ∷ []
   marks_length : lengths 12 6 2 27 ∷ lengths 12 6 2 29 ∷ [] ≡ 1 ∷ 1 ∷ []
-  -- "or the book's length is wrong"
-  book_length : booked (book_length - 1) ∷ booked book_length ∷ booked (book_length + 1) ∷ [] ≡ refused 1 ∷ accepted ∷ refused 1 ∷ []
-  -- which comes before the codes
+  -- "or the book's length is wrong": before the codes
   book_first : (open_of 2 1 wrong_code (issue 2 0 0) (zeros 2) (zeros 28) (zeros (book_length - 1))).0 ≡ refused 1
+  book_length : booked (book_length - 1) ∷ booked book_length ∷ booked (book_length + 1) ∷ [] ≡ refused 1 ∷ accepted ∷ refused 1 ∷ []
   -- kinds to 6
   kind : second (issue 6 0 0) ∷ second (issue 7 0 0) ∷ [] ≡ accepted ∷ refused 3 ∷ []
   -- "price (.. 1,000 to 30,000)"
@@ -80,8 +79,8 @@ openings = record {
   terms_length = refl;
   receipts_length = refl;
   marks_length = refl;
-  book_length = refl;
   book_first = refl;
+  book_length = refl;
   kind = refl;
   price = refl;
   coupon = refl;
