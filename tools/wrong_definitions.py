@@ -3,8 +3,8 @@
 
 wrong_definitions.py [--examples] [--workers N] [NAME ..]
 
-A line of the list is `name: file | old | new`: the first place of `old` in crates/rule/specs/<file>.antt (or crates/lists/specs, for
-`lists/<file>`) becomes `new`; ¶ stands for the end of a line, ǁ for ||. Where `new` says `same:` in front, the definition is no wrong one: it
+A line of the list is `name: file | old | new`, with more pairs of old and new where one does not do: the first place of `old` in
+crates/rule/specs/<file>.antt (or crates/lists/specs, for `lists/<file>`) becomes `new`; ¶ stands for the end of a line, ǁ for ||. Where `new` says `same:` in front, the definition is no wrong one: it
 gives the same answers on every day, and is there to say so. A name that `new` needs is added to the file's imports.
 
 With --examples the laws and demands are left out of the copy, and so the worked days, which rest on laws: what remains to refuse a definition
@@ -28,12 +28,13 @@ def wrong_definitions():
             continue
         name, rest = line.split(": ", 1)
         parts = re.split(r" \|(?: |$)", rest)
-        if len(parts) != 3:
-            sys.exit(f"{LIST}: {name}: {len(parts)} parts, not 3")
-        file, old, new = (part.replace(" ¶", "\n").replace("¶", "\n").replace("ǁ", "||") for part in parts)
+        if len(parts) < 3 or len(parts) % 2 == 0:
+            sys.exit(f"{LIST}: {name}: {len(parts)} parts")
+        file, *texts = (part.replace(" ¶", "\n").replace("¶", "\n").replace("ǁ", "||") for part in parts)
         crate, file = file.split("/") if "/" in file else ("rule", file)
-        same = new.startswith("same: ")
-        yield name, f"crates/{crate}/specs/{file}.antt", old, new.removeprefix("same: "), same
+        same = texts[1].startswith("same: ")
+        texts[1] = texts[1].removeprefix("same: ")
+        yield name, f"crates/{crate}/specs/{file}.antt", list(zip(texts[::2], texts[1::2])), same
 
 
 def copy(to, examples):
@@ -103,18 +104,21 @@ def main(arguments):
         copy(at, examples)
         while True:
             try:
-                name, file, old, new, same = waiting.get_nowait()
+                name, file, changes, same = waiting.get_nowait()
             except queue.Empty:
                 return
             path = f"{at}/{file}"
-            with open(path, encoding="utf-8") as right:
-                right = right.read()
-            if old in right:
-                verdict, files, error = tried(at, path, right.replace(old, new, 1))
-                with open(path, "w", encoding="utf-8") as back:
-                    back.write(right)
+            with open(path, encoding="utf-8") as file:
+                right = file.read()
+            wrong = right
+            for old, new in changes:
+                wrong = wrong.replace(old, new, 1) if old in wrong else ""
+            if wrong:
+                verdict, files, error = tried(at, path, wrong)
+                with open(path, "w", encoding="utf-8") as file:
+                    file.write(right)
             else:
-                verdict, files, error = "no such text", [], ("", "", file)
+                verdict, files, error = "no such text", [], ("", "", path)
             with lock:
                 results.append((verdict, same))
                 short = " ".join(sorted(os.path.basename(f)[:-5] for f in files))

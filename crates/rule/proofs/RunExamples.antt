@@ -50,9 +50,9 @@ others_used =
     let y : Day = notify 5 4 (open_issues 3 two (9 ∷ 9 ∷ 9 ∷ 9 ∷ 0 ∷ 0 ∷ [])) in
     outcome (trade_day (trade_day (notice_day y 1 (0 ∷ 1 ∷ []) (5 ∷ 4 ∷ [])).1 0 2 2 100000).1 1 2 3 100000).1 draw
 
--- a pair of yesterday in basket C, and 4 and 5 notified
-unfoldable pair_by_notified : Handed
-pair_by_notified = outcome (sell 2 100000 (notify 4 5 (open_pairs 3 two (9 ∷ 9 ∷ zeros 4) (zeros 19 ++ (1 ∷ zeros 43))))) draw
+-- a pair of yesterday in basket C
+unfoldable pair_by_notified : ℕ → ℕ → Handed
+pair_by_notified a b = outcome (sell 2 100000 (notify a b (open_pairs 3 two (9 ∷ 9 ∷ zeros 4) (zeros 19 ++ (1 ∷ zeros 43))))) draw
 
 -- ---- baskets. An issue of kind 0 is in all of them: 4 lots notified, sold for yen in G and, later in the day, in A
 
@@ -141,8 +141,9 @@ record Runs : Type 0 where
   same_basket : two_receivers.lines ≡ (0 ∷ 0 ∷ 3 ∷ []) ∷ (1 ∷ 0 ∷ 2 ∷ []) ∷ []
   -- nor are those that another deliverer used: issue 0 for both
   others_not_deducted : others_used.lines ≡ (0 ∷ 0 ∷ 2 ∷ []) ∷ (1 ∷ 0 ∷ 2 ∷ []) ∷ []
-  -- "larger notified lots first" for a preferential match: issue 1
-  pair_notified : pair_by_notified.lines ≡ (0 ∷ 1 ∷ 2 ∷ []) ∷ []
+  -- "larger notified lots first" for a preferential match: issue 1 with 5 to 4. "Ties: smaller ISIN"
+  pair_notified : (pair_by_notified 4 5).lines ≡ (0 ∷ 1 ∷ 2 ∷ []) ∷ []
+  pair_ties : (pair_by_notified 5 5).lines ≡ (0 ∷ 0 ∷ 2 ∷ []) ∷ []
   -- "not larger allocable"
   pair_not_allocable : pair_by_smaller.lines ≡ (0 ∷ 0 ∷ 1 ∷ []) ∷ (0 ∷ 1 ∷ 1 ∷ []) ∷ []
   -- "Its target is the amount rounded down to a multiple of 5,000,000,000 yen": at 30,000 yen a lot one unit, of 3,000,000,000 yen, fits, where two
@@ -204,6 +205,7 @@ runs = record {
   same_basket = refl;
   others_not_deducted = refl;
   pair_notified = refl;
+  pair_ties = refl;
   pair_not_allocable = refl;
   target = refl;
   a_first = refl;
