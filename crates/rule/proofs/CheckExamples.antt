@@ -196,7 +196,7 @@ record Others : Type 0 where
   fewer_lots : notified 0 (0 ∷ 1 ∷ []) (1 ∷ []) ≡ refused 12
   more_lots : notified 0 (0 ∷ []) (1 ∷ 1 ∷ []) ≡ refused 12
   issues : map (λ i. notified 0 (i ∷ []) (1 ∷ [])) (1 ∷ 2 ∷ []) ≡ accepted ∷ refused 12 ∷ []
-  twice : notified 0 (0 ∷ 1 ∷ 0 ∷ []) (1 ∷ 1 ∷ 1 ∷ []) ≡ refused 12
+  twice : map (λ issues. notified 0 issues (1 ∷ 1 ∷ 1 ∷ [])) ((0 ∷ 1 ∷ 0 ∷ []) ∷ (0 ∷ 1 ∷ 1 ∷ []) ∷ []) ≡ refused 12 ∷ refused 12 ∷ []
   -- all of 12 before any of 13
   entries_first : notified 0 (0 ∷ 2 ∷ []) (200000001 ∷ 1 ∷ []) ∷ notified 0 (0 ∷ 0 ∷ []) (200000001 ∷ 1 ∷ []) ∷ [] ≡ refused 12 ∷ refused 12 ∷ []
   -- "lots above 200,000,000 (0 is allowed)"
