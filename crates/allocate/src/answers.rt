@@ -1,5 +1,5 @@
 // What a line is answered in place of its records.
-use rule::Refusal;
+use reply::Refusal;
 use std::alloc::{AllocError, AllocFailed};
 use std::{fmt, io};
 

@@ -4,7 +4,7 @@ use crate::fields::{Basket, Codes, number, numbers};
 use crate::given::{Given, PAIRS, RECEIPTS};
 use crate::{Book, listing};
 use layout::{MOST_ISSUES, MOST_PARTICIPANTS};
-use rule::Yen;
+use quantities::Yen;
 use std::alloc::Global;
 
 // the entries of a notice or the participants of a draw that there is room for, more than a day has

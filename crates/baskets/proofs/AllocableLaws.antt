@@ -7,8 +7,8 @@ use lib.Dec.{eqb}
 use Rattle.std.specs.Ordering.{ord_min}
 use Rattle.std.proofs.lemmas.Bool.Decides.{nat_tests}
 use Rattle.lists.specs.Tests.{pick}
-use Rattle.rule.specs.declared.Lots.{Lots}
-use Rattle.rule.specs.contracts.LotsOrd.TheImpl.{cmp-value}
+use Rattle.quantities.specs.declared.Lots.{Lots}
+use Rattle.quantities.specs.contracts.LotsOrd.TheImpl.{cmp-value}
 use Rattle.rule.specs.Value.{Terms}
 use Rattle.rule.specs.Allocable.{unmarked, allocable}
 

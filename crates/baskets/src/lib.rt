@@ -8,7 +8,7 @@ ghost use Rattle.rule.specs.Day.{terms_of};
 ghost use Rattle.baskets.specs.Kinds.{KindsOf};
 ghost use Rattle.rule.specs.Allocable.{unmarked, allocable as allocable_of};
 
-use rule::Lots;
+use quantities::Lots;
 
 // Yes and no, in a letter each: so the columns of the table stand in line.
 const Y: bool = true;

@@ -3,10 +3,11 @@
 
 ghost use Rattle.std.specs.Prelude.{◌≡◌, ◌≤◌};
 ghost use Rattle.rule.specs.Layout.{book_length, open_of, trade_of, notice_of, run_of, close_of};
-ghost use Rattle.rule.specs.Answers.{told, told_run};
+ghost use Rattle.reply.specs.Answers.{told, told_run};
 ghost use Rattle.c_api.specs.Returned.{returned, for_c, Fits};
 
-use rule::{Counts, Refusal, Yen};
+use quantities::Yen;
+use reply::{Counts, Refusal};
 
 // A run's number: 2^32 + matches × 2^16 + lines.
 const RAN: u64 = 4294967296;

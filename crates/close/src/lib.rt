@@ -3,12 +3,12 @@
 
 ghost use Rattle.std.specs.Prelude.{◌≡◌};
 ghost use Rattle.rule.specs.Layout.{close_of};
-ghost use Rattle.rule.specs.Answers.{told};
+ghost use Rattle.reply.specs.Answers.{told};
 ghost use Rattle.rule.proofs.BookLaws.{SoundBook};
 ghost use Rattle.close.specs.Closed.{ReceiptsFit, PairsFit, receipts_written, pairs_written, close_sound};
 
 use book::sound;
-use rule::Refusal;
+use reply::Refusal;
 
 // The tally's rows, one after the other.
 fn write_receipts(book: &[u64], receipts: &mut [u64])

@@ -11,7 +11,7 @@ use lib.ListN.{length, get_or, take, set}
 use lib.Seq.{get_or-take, length-take-le, take_all}
 use Rattle.lists.specs.Folds.{foldl, Every}
 use Rattle.lists.proofs.FoldLaws.{foldl-take, every-index}
-use Rattle.rule.specs.declared.Yen.{Yen}
+use Rattle.quantities.specs.declared.Yen.{Yen}
 use Rattle.rule.specs.Value.{Terms, no_terms, value}
 use Rattle.rule.specs.Filling.{worth, Taken, nothing, lots_of, others, become, walk, fill_preferential, first_pass, second_pass, fill_drawn, fill}
 use Rattle.rule.proofs.FillingLaws.{Priced, apart, worth-become}

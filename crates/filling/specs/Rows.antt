@@ -2,7 +2,7 @@
 use Rattle.std.specs.Prelude.{◌≡◌, Bool, true, false, List, [], ◌∷◌, ℕ, ◌+◌, ◌≤◌, ◌<◌, length, get_or, set, Option, Some, None}
 use Rattle.lists.specs.Tables.{zeros}
 use Rattle.rule.specs.Value.{Terms, value}
-use Rattle.rule.specs.declared.Yen.{Yen}
+use Rattle.quantities.specs.declared.Yen.{Yen}
 use Rattle.value.specs.Rated.{Rated}
 use Rattle.turns.specs.Turns.{besides, Part}
 use Rattle.turns.specs.Passes.{next_of, Turnable}

@@ -7,7 +7,7 @@ ghost use Rattle.value.specs.Rated.{terms_in};
 ghost use Rattle.filling.specs.Rows.{passes_of, Ready, Stepped, Asked};
 ghost use Rattle.filling.specs.Match.{Coverable, Idle, Supplied, Forcible, FilledAs};
 
-use rule::{Lots, Yen};
+use quantities::{Lots, Yen};
 use turns::{Pass, Standing};
 use value::Rate;
 

@@ -18,7 +18,7 @@ ghost use Rattle.filling_cases.specs.Cases.{Right, Fit, Listed, Worth};
 
 use filling::{Filling, Supply};
 use ordering::Order;
-use rule::{Lots, Yen};
+use quantities::{Lots, Yen};
 use std::alloc::Global;
 use std::io;
 use std::io::Read;

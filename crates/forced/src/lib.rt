@@ -9,7 +9,7 @@ ghost use Rattle.value.specs.Rated.{terms_in};
 ghost use Rattle.baskets.specs.Kinds.{KindsOf};
 ghost use Rattle.forced.specs.Choice.{noted, takes, fifth_among, least_of, BestOf, FifthOf};
 
-use rule::Lots;
+use quantities::Lots;
 
 // The kind of the ten-year issues: a number, as it stands in the book, which is a rule of the project.
 const TEN_YEAR: u64 = 2;

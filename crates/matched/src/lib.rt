@@ -12,7 +12,7 @@ use matching::{Match, Plan};
 use ordering::Order;
 use records::listing::Lists;
 use records::{booking, issues};
-use rule::Yen;
+use quantities::Yen;
 use stock::Stock;
 
 // The matches of the basket, from rows for what each participant owes and has due.

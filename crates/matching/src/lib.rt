@@ -8,7 +8,7 @@ ghost use Rattle.rule.specs.Matching.{meet as meet_of, with, preferential as pre
 ghost use Rattle.matching.specs.Plans.{left_of, SameBuffers, Planned, Meeting, Turning, Drawing, pair_marks, meet_pairs, Pairing, Preferring, Basket};
 
 use arrayvec::ArrayVec;
-use rule::Yen;
+use quantities::Yen;
 
 // Who delivers to whom by number, and the matched yen.
 #[derive(Clone, Copy)]

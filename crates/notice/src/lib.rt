@@ -6,12 +6,12 @@ ghost use Rattle.std.specs.List.{list_all};
 ghost use Rattle.rule.specs.Day.{notice_row};
 ghost use Rattle.rule.specs.Calls.{distinct};
 ghost use Rattle.rule.specs.Layout.{notice_of};
-ghost use Rattle.rule.specs.Answers.{told};
+ghost use Rattle.reply.specs.Answers.{told};
 ghost use Rattle.rule.proofs.BookLaws.{SoundBook};
 ghost use Rattle.notice.specs.Checked.{Named, Entries, Written, notice_sound, notice_written};
 
 use book::{limits, sound};
-use rule::Refusal;
+use reply::Refusal;
 
 // Does each entry name an issue of the day?
 fn all_of_day(named: &[u64], issues: u64) -> bool

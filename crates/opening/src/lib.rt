@@ -3,13 +3,13 @@
 
 ghost use Rattle.std.specs.Prelude.{◌≡◌, ◌≤◌, [], length};
 ghost use Rattle.rule.specs.Layout.{book_length, open_of};
-ghost use Rattle.rule.specs.Answers.{told};
+ghost use Rattle.reply.specs.Answers.{told};
 ghost use Rattle.opening.specs.Opened.{Lengths, marks_written, open_written, open_lengths};
 
 use arrayvec::ArrayVec;
 use book::limits;
 use rows::Rows;
-use rule::Refusal;
+use reply::Refusal;
 
 // The codes of at most 32 issues, a cell for each byte.
 type Codes = ArrayVec<u64, 384>;

@@ -7,7 +7,7 @@ ghost use Rattle.orders.specs.Orders.{Same, Rankable, Loadable, Loaded, OrderAsk
 
 use matching::Match;
 use ordering::Order;
-use rule::Yen;
+use quantities::Yen;
 
 // Has the match before m the same deliverer, and is it of the same sort? Then their orders are the same.
 fn follows(last: Option<Match>, m: Match) -> bool

@@ -2,7 +2,7 @@
 ghost use Rattle.records.specs.Booked.{Shiftable, Shifted, Bookable, BookableLots, YenMoved, IssueMoved};
 
 use matching::Match;
-use rule::{Lots, Yen};
+use quantities::{Lots, Yen};
 
 // One signed cell less by an amount, another more by it.
 fn shift(book: &mut [u64], from: usize, to: usize, amount: u64)

@@ -5,7 +5,7 @@ ghost use Rattle.records.specs.Issues.{IssueWritable, IssueWritten, IssuesWritab
 use crate::booking;
 use crate::listing::Lists;
 use matching::Match;
-use rule::Lots;
+use quantities::Lots;
 
 // One issue's lots, if there are any. Book, lots used and lists are no struct: the callers read the book between the writes, and lend a row of
 // all lots used.

@@ -4,7 +4,8 @@ ghost use Rattle.records.specs.Listed.{MatchRoom, LineRoom, MatchAdded, LineAdde
 
 use filling::Filling;
 use matching::Match;
-use rule::{Counts, Lots};
+use quantities::Lots;
+use reply::Counts;
 
 // The lists that a run was lent, and how many entries of each are written.
 #[derive(Drop)]

@@ -1,15 +1,12 @@
--- Examples of the calls on a book, and of the numbers of refusals. By computation. Assumes nothing.
+-- Examples of the calls on a book. By computation. Assumes nothing.
 use mathlib.Core.Path.{◌≡◌, refl}
-use Rattle.std.specs.Prelude.{Ok, Err}
 use Prim.Native.Nat.{ℕ, ◌+◌, ◌*◌, ◌-◌}
-use mathlib.Core.List.{List, [], ◌∷◌, ◌++◌, map}
+use mathlib.Core.List.{List, [], ◌∷◌, ◌++◌}
 use lib.ListN.{take, drop}
 use Rattle.lists.specs.Tables.{zeros, table}
 use Rattle.lists.specs.Parts.{written}
 use Rattle.rule.specs.Calls.{Reply, accepted, counts, refused}
-use Rattle.rule.specs.Answers.{number_of, told, told_run}
 use Rattle.rule.specs.Layout.{codes_at, terms_at, receipts_at, positions_at, notices_at, today_at, tally_at, book_length, open_of, trade_of, notice_of, run_of, close_of}
-use Rattle.rule.specs.declared.Refusal.TheVariants.{WrongSize, WrongCode, WrongTerm, WrongReceiptOrPair, UnsoundBook, ThreeRunsDone, NotOfDay, WrongAmount, NoUnmarkedIssue, PositionTooLarge, TooManyTrades, WrongEntry, TooManyLots, WrongDraw, ShortList, FewerThanThreeRuns}
 use Rattle.rule.proofs.ExampleDays.{on_book, codes, issue}
 use Rattle.rule.proofs.WholeRule.{book_rule}
 
@@ -54,14 +51,6 @@ record Books : Type 0 where
   past_counts : ran ≡ (counts 1 1, (2 ∷ 0 ∷ 1 ∷ 50000 ∷ 50000 ∷ 0 ∷ 0 ∷ 9 ∷ [], 0 ∷ 0 ∷ 1 ∷ 9 ∷ []))
   -- "the tally where positive, else 0", and "covered above 0 today"; the rest of longer lists stays
   tomorrow : closed ≡ (accepted, (2 ∷ 0 ∷ 9 ∷ [], zeros 9 ++ (1 ∷ (zeros 18 ++ (9 ∷ 9 ∷ [])))))
-  -- the numbers of the check table
-  numbers : map number_of
-      (WrongSize ∷ WrongCode ∷ WrongTerm ∷ WrongReceiptOrPair ∷ UnsoundBook ∷ ThreeRunsDone ∷ NotOfDay ∷ WrongAmount ∷ NoUnmarkedIssue ∷ PositionTooLarge ∷ TooManyTrades ∷ WrongEntry ∷ TooManyLots ∷ WrongDraw ∷ ShortList ∷ FewerThanThreeRuns ∷ [])
-      ≡ 1 ∷ 2 ∷ 3 ∷ 4 ∷ 5 ∷ 6 ∷ 7 ∷ 8 ∷ 9 ∷ 10 ∷ 11 ∷ 12 ∷ 13 ∷ 14 ∷ 15 ∷ 16 ∷ []
-  -- "A refusal returns its number alone"
-  told : told (Ok tt) ∷ told (Err NotOfDay) ∷ told_run (Err WrongDraw) ∷ [] ≡ accepted ∷ refused 7 ∷ refused 14 ∷ []
-  -- "A run returns its counts", matches first
-  counted : told_run (Ok (record { matches = 3; lines = 5 })) ≡ counts 3 5
 
 books : Books
 unfolding book_rule book closed ran reopened
@@ -74,7 +63,4 @@ books = record {
   beyond_zero = refl;
   past_counts = refl;
   tomorrow = refl;
-  numbers = refl;
-  told = refl;
-  counted = refl;
 }

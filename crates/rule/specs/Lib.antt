@@ -10,6 +10,5 @@ pub mod Run
 pub mod Sound
 pub mod Calls
 pub mod Layout
-pub mod Answers
 pub mod Claims
 pub mod WorkedDays

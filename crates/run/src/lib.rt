@@ -4,12 +4,12 @@
 ghost use Rattle.std.specs.Prelude.{◌≡◌, ◌==◌, count_by};
 ghost use Rattle.rule.specs.Calls.{each_once};
 ghost use Rattle.rule.specs.Layout.{run_of};
-ghost use Rattle.rule.specs.Answers.{told_run};
+ghost use Rattle.reply.specs.Answers.{told_run};
 ghost use Rattle.rule.proofs.BookLaws.{SoundBook};
 ghost use Rattle.run.specs.Checked.{run_sound};
 
 use book::sound;
-use rule::{Counts, Refusal};
+use reply::{Counts, Refusal};
 
 // The cells of 77 matches, and of 2,464 lines.
 const MATCH_CELLS: usize = 7 * 77;

@@ -7,7 +7,7 @@ ghost use Rattle.runs.specs.Ran.{BasketsAsk, BasketsDone, Cleared, Ran};
 use crate::basket;
 use ordering::Order;
 use records::listing::Lists;
-use rule::Counts;
+use reply::Counts;
 use stock::Stock;
 
 // "Basket by basket, A first".

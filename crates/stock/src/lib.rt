@@ -6,7 +6,7 @@ ghost use Rattle.lists.specs.Tables.{table};
 ghost use Rattle.rows.specs.Rows.{Becomes};
 ghost use Rattle.stock.specs.Stock.{allocable_in, inside_of, usable_of, Markable, Row, Rows, Allocable, Enough, Usable, Usables};
 
-use rule::{Lots, Yen};
+use quantities::{Lots, Yen};
 use value::Rate;
 
 // What a run may allocate: each issue's rate, and every participant's allocable quantities in rows as far apart as the book's.

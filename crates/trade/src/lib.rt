@@ -4,11 +4,12 @@
 ghost use Rattle.std.specs.Prelude.{◌≡◌, ◌+◌, ◌*◌, ◌<◌};
 ghost use Rattle.rule.specs.Layout.{trade_of};
 ghost use Rattle.rule.proofs.BookLaws.{SoundBook};
-ghost use Rattle.rule.specs.Answers.{told};
+ghost use Rattle.reply.specs.Answers.{told};
 ghost use Rattle.trade.specs.Checked.{Between, trade_between, trade_sound};
 
 use book::{limits, sound};
-use rule::{Refusal, Yen};
+use quantities::Yen;
+use reply::Refusal;
 
 // "amount 0 or above 10^12 yen"
 const AMOUNT_LIMIT: Yen = Yen(1_000_000_000_000);

@@ -8,7 +8,7 @@ ghost use Rattle.rule.specs.Filling.{unit};
 ghost use Rattle.turns.specs.Turns.{besides, Few, Part, Addable, up_to, whole_units, Raising, Rounding, Valued, Took, Short};
 ghost use Rattle.turns.specs.Passes.{next_of, Turnable};
 
-use rule::{Lots, Yen};
+use quantities::{Lots, Yen};
 use value::Rate;
 
 // A unit of a drawn match's first pass.

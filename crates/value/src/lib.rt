@@ -6,7 +6,7 @@ ghost use Rattle.rule.specs.Value.{Terms, value as value_of, fewest as fewest_of
 ghost use Rattle.value.specs.Rate.{rate as rate_of, Quoted, Valuable, Payable};
 ghost use Rattle.value.specs.Rated.{Rates, Termed, terms_in, Summable};
 
-use rule::{Lots, Yen};
+use quantities::{Lots, Yen};
 
 // What a lot is worth in 730ths of a yen, in which nothing is rounded.
 #[derive(Clone, Copy)]
