@@ -10,9 +10,9 @@ use book::sound;
 use filling::{Filling, Supply};
 use matching::{Match, Plan};
 use ordering::Order;
+use quantities::Yen;
 use records::listing::Lists;
 use records::{booking, issues};
-use quantities::Yen;
 use stock::Stock;
 
 // The matches of the basket, from rows for what each participant owes and has due.

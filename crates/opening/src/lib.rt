@@ -8,8 +8,8 @@ ghost use Rattle.opening.specs.Opened.{Lengths, marks_written, open_written, ope
 
 use arrayvec::ArrayVec;
 use book::limits;
-use rows::Rows;
 use reply::Refusal;
+use rows::Rows;
 
 // The codes of at most 32 issues, a cell for each byte.
 type Codes = ArrayVec<u64, 384>;
