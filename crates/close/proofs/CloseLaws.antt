@@ -15,8 +15,8 @@ use Rattle.lists.specs.Parts.{block, grid, over, rows_at, written}
 use Rattle.lists.proofs.AppendLaws.{over_none, over-more, joined-more}
 use Rattle.lists.proofs.TableLaws.{length-table, get_or-table, get_d_map}
 use Rattle.lists.proofs.PartLaws.{part_length, part-back, length_over, written-more, Shape, grid-shape}
-use Rattle.rows.proofs.CopyLaws.{Copies}
-use Rattle.rows.proofs.RowLaws.{made-block}
+use Rattle.lists.proofs.CopyLaws.{Copies}
+use Rattle.lists.proofs.RowLaws.{made-block}
 use Rattle.rule.specs.Calls.{Reply, accepted, refused, close_checks, tomorrow_receipts, tomorrow_pairs}
 use Rattle.rule.specs.Layout.{tally_at, today_at, plus, cube, view}
 use Rattle.rule.proofs.LayoutLaws.{map-shape}

@@ -7,7 +7,6 @@ ghost use Rattle.reply.specs.Answers.{told};
 ghost use Rattle.rule.proofs.BookLaws.{SoundBook};
 ghost use Rattle.close.specs.Closed.{ReceiptsFit, PairsFit, receipts_written, pairs_written, close_sound};
 
-use book::sound;
 use reply::Refusal;
 
 // The tally's rows, one after the other.
@@ -20,10 +19,10 @@ fn write_receipts(book: &[u64], receipts: &mut [u64])
     for p in 0..participants {
         let to = issues * p;
         let from = layout::TALLY + layout::MOST_ISSUES * p;
-        rows::copy_with(
+        lists::copy_with(
             &mut receipts[to..to + issues],
             &book[from..from + issues],
-            sound::owed_of,
+            signed::owed_of,
         );
     }
 }
@@ -36,7 +35,7 @@ fn write_pairs(book: &[u64], pairs: &mut [u64])
     let participants = book[layout::PARTICIPANTS] as usize;
     let square = participants * participants;
     for k in 0..layout::BASKETS {
-        let marks = rows::Rows {
+        let marks = lists::Rows {
             cells: &book[layout::TODAY + layout::SQUARE * k..],
             apart: layout::MOST_PARTICIPANTS,
             n: participants,
@@ -70,7 +69,7 @@ fn close_sound(book: &[u64], receipts: &mut [u64], pairs: &mut [u64]) -> Result<
 pub fn close(book: &[u64], receipts: &mut [u64], pairs: &mut [u64]) -> Result<(), Refusal>
     ensures { (told result, (receipts.new, pairs.new)) ≡ close_of book.now receipts.old pairs.old }
 {
-    if !sound::sound(book) {
+    if !sound::is_sound(book) {
         return Err(Refusal::UnsoundBook);
     }
     close_sound(book, receipts, pairs)

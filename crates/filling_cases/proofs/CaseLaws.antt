@@ -22,7 +22,7 @@ use Rattle.value.proofs.TermLaws.{terms-length, terms-priced}
 use Rattle.filling.specs.Match.{Supplied}
 use Rattle.filling.specs.Rows.{Named}
 use Rattle.filling.proofs.OnceLaws.{kept-named}
-use Rattle.ordering.specs.Ordered.{Ordered}
+use Rattle.issue_order.specs.Ordered.{Ordered}
 use Rattle.filling_cases.specs.Cases.{Fit, Listed, Worth, Right}
 
 -- ---- a case's terms and rows are what filling asks

@@ -17,7 +17,7 @@ ghost use Rattle.filling.specs.Rows.{Named};
 ghost use Rattle.filling_cases.specs.Cases.{Right, Fit, Listed, Worth};
 
 use filling::{Filling, Supply};
-use ordering::Order;
+use issue_order::Order;
 use quantities::{Lots, Yen};
 use std::alloc::Global;
 use std::io;
@@ -52,7 +52,7 @@ impl Case<'_> {
         let ranks = &mut places[..issues];
         ranking::rank(self.notified.as_slice(), &mut *ranks);
         let mut order = Order::new();
-        ordering::issue_order(
+        issue_order::issue_order(
             self.preferential,
             self.notified.as_slice(),
             self.used.as_slice(),

@@ -10,8 +10,8 @@ ghost use Rattle.reply.specs.Answers.{told};
 ghost use Rattle.rule.proofs.BookLaws.{SoundBook};
 ghost use Rattle.notice.specs.Checked.{Named, Entries, Written, notice_sound, notice_written};
 
-use book::{limits, sound};
 use reply::Refusal;
+use sound::limits;
 
 // Does each entry name an issue of the day?
 fn all_of_day(named: &[u64], issues: u64) -> bool
@@ -106,7 +106,7 @@ pub fn notice(
 ) -> Result<(), Refusal>
     ensures { (told result, book.new) ≡ notice_of book.old participant issues.now lots.now }
 {
-    if !sound::sound(book) {
+    if !sound::is_sound(book) {
         return Err(Refusal::UnsoundBook);
     }
     let notified = Notified {

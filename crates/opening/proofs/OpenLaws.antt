@@ -25,7 +25,7 @@ use Rattle.rule.proofs.LayoutLaws.{terms-rows}
 use Rattle.rule.proofs.SoundLaws.{Sizes, sizes-of}
 use Rattle.rule.proofs.AnswerLaws.{answers}
 use Rattle.rule.proofs.OpenLaws.{Openable, open-stored}
-use Rattle.rows.proofs.CopyLaws.{Copies, copied-length, copied-joined}
+use Rattle.lists.proofs.CopyLaws.{Copies, copied-length, copied-joined}
 use Rattle.opening.specs.Opened.{Lengths, marks_written, open_written, open_lengths}
 
 -- ---- an array whose rows stand one after the other, copied whole

@@ -7,9 +7,9 @@ ghost use Rattle.reply.specs.Answers.{told};
 ghost use Rattle.opening.specs.Opened.{Lengths, marks_written, open_written, open_lengths};
 
 use arrayvec::ArrayVec;
-use book::limits;
+use lists::Rows;
 use reply::Refusal;
-use rows::Rows;
+use sound::limits;
 
 // The codes of at most 32 issues, a cell for each byte.
 type Codes = ArrayVec<u64, 384>;

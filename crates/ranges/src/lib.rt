@@ -8,7 +8,7 @@ ghost use Rattle.rule.specs.Day.{terms_of};
 ghost use Rattle.rule.specs.Sound.{sizes_fit, terms_fit, all_terms_fit, at_most, marks_fit};
 ghost use Rattle.ranges.specs.Ranges.{SquareOf, Fronts, Squares, all_pass, none_on_oneself, square_fits};
 
-use rows::Rows;
+use lists::Rows;
 
 // The largest number that has not the highest bit.
 pub const LOW_BITS: u64 = 9223372036854775807;

@@ -4,7 +4,7 @@ use Prim.Native.Nat.{ℕ, ◌+◌, ◌≤◌, ◌<◌}
 use native.Mathlib.Omega.{arith}
 use borrow.Author.Rules.{rules}
 use mathlib.Core.Logic.{◌≢◌}
-use mathlib.Core.Bool.{Bool, true, false, ◌&&◌, cond}
+use mathlib.Core.Bool.{Bool, true, false, cond}
 use Rattle.std.specs.List.{count_by}
 use Rattle.std.proofs.lemmas.List.Recursion.{is_count_by}
 use mathlib.Core.List.{List}
@@ -14,15 +14,15 @@ use borrow.Author.Tests.{eq-eqb, ne_eqb}
 use Rattle.lists.specs.Tests.{pick, all_below}
 use Rattle.lists.specs.Folds.{joined, total}
 use Rattle.lists.specs.Parts.{over}
-use Rattle.lists.proofs.TestLaws.{go, stop, and_no, all-stop}
+use Rattle.lists.proofs.TestLaws.{go, stop}
 use Rattle.rule.specs.Run.{allocations, ran, match_list, line_list}
 use Rattle.rule.specs.Calls.{Reply, counts, refused, each_once, run_checks, run_reply}
 use Rattle.rule.specs.Layout.{view, stored}
 use Rattle.rule.proofs.AnswerLaws.{answers}
 use Rattle.rule.proofs.BookLaws.{SoundBook}
 use Rattle.rule.proofs.DrawLaws.{draw-right}
-use Rattle.runs.specs.Running.{Start}
-use Rattle.runs.specs.Ran.{Ran}
+use Rattle.run_basket.specs.Running.{Start}
+use Rattle.run.specs.Ran.{Ran}
 use Rattle.run.specs.Checked.{run_sound}
 
 -- ---- how many times the draw names a participant

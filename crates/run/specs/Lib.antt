@@ -1,2 +1,3 @@
 -- What the contracts of a run cite besides the rule.
+pub mod Ran
 pub mod Checked

@@ -8,7 +8,8 @@ ghost use Rattle.reply.specs.Answers.{told_run};
 ghost use Rattle.rule.proofs.BookLaws.{SoundBook};
 ghost use Rattle.run.specs.Checked.{run_sound};
 
-use book::sound;
+mod whole;
+
 use reply::{Counts, Refusal};
 
 // The cells of 77 matches, and of 2,464 lines.
@@ -52,7 +53,7 @@ fn run_sound(
     if lines.len() < LINE_CELLS {
         return Err(Refusal::ShortList);
     }
-    let counts = runs::whole::run(book, draw, matches, lines);
+    let counts = whole::run(book, draw, matches, lines);
     Ok(counts)
 }
 
@@ -64,7 +65,7 @@ pub fn run(
 ) -> Result<Counts, Refusal>
     ensures { (told_run result, (book.new, matches.new, lines.new)) ≡ run_of book.old draw.now matches.old lines.old }
 {
-    if !sound::sound(book) {
+    if !sound::is_sound(book) {
         return Err(Refusal::UnsoundBook);
     }
     run_sound(book, draw, matches, lines)

@@ -1,7 +1,8 @@
 -- What moving yen between two positions of the book asks. Assumes nothing.
-use Rattle.std.specs.Prelude.{ℕ, ◌+◌, ◌-◌, ◌%◌, ◌≤◌, List, set, slice_index, slice_set}
+use Rattle.std.specs.Prelude.{ℕ, ◌+◌, ◌≤◌, List, set, slice_index, slice_set}
 use Rattle.rule.specs.Layout.{plus, minus}
 use Rattle.rule.specs.Sound.{position_limit}
+use Rattle.signed.specs.Sums.{more, less}
 
 -- a position within its limit, and yen of a trade
 pub record Movable (cell yen : ℕ) : Type 0 where
@@ -9,10 +10,10 @@ pub record Movable (cell yen : ℕ) : Type 0 where
   pub due : minus cell ≤ position_limit
   pub most : yen ≤ 1000000000000
 
--- yen are added to the one cell and taken from the other, as two's complement, and one trade more is counted
+-- the cells of the two positions become these, and one trade more is counted
+abbrev pub moved_to : List ℕ → ℕ → ℕ → ℕ → ℕ → List ℕ
+moved_to b seller buyer sold bought = set (slice_set (slice_set b seller sold) buyer bought) 3 (slice_index b 3 + 1)
+
+-- yen are added to the one and taken from the other
 unfoldable pub moved_of : List ℕ → ℕ → ℕ → ℕ → List ℕ
-moved_of b seller buyer yen =
-    set
-    (slice_set (slice_set b seller ((slice_index b seller + yen) % 18446744073709551616)) buyer ((slice_index b buyer + (18446744073709551616 - yen)) % 18446744073709551616))
-    3
-    (slice_index b 3 + 1)
+moved_of b seller buyer yen = moved_to b seller buyer (more (slice_index b seller) yen) (less (slice_index b buyer) yen)

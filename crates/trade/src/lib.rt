@@ -7,9 +7,9 @@ ghost use Rattle.rule.proofs.BookLaws.{SoundBook};
 ghost use Rattle.reply.specs.Answers.{told};
 ghost use Rattle.trade.specs.Checked.{Between, trade_between, trade_sound};
 
-use book::{limits, sound};
 use quantities::Yen;
 use reply::Refusal;
+use sound::limits;
 
 // "amount 0 or above 10^12 yen"
 const AMOUNT_LIMIT: Yen = Yen(1_000_000_000_000);
@@ -42,13 +42,13 @@ impl Sale {
         }
         let at_seller = place(self.basket, self.seller);
         let at_buyer = place(self.basket, self.buyer);
-        let sold = book[at_seller].wrapping_add(self.amount.0);
-        let bought = book[at_buyer].wrapping_sub(self.amount.0);
+        let sold = signed::more(book[at_seller], self.amount.0);
+        let bought = signed::less(book[at_buyer], self.amount.0);
         // Cells and their limits are numbers: a rule of the project.
-        if sound::owed_of(sold) > limits::POSITION {
+        if signed::owed_of(sold) > limits::POSITION {
             return Err(Refusal::PositionTooLarge);
         }
-        if sound::due_of(bought) > limits::POSITION {
+        if signed::due_of(bought) > limits::POSITION {
             return Err(Refusal::PositionTooLarge);
         }
         let trades = book[layout::TRADES];
@@ -101,7 +101,7 @@ pub fn trade(
 ) -> Result<(), Refusal>
     ensures { (told result, book.new) ≡ trade_of book.old seller buyer basket amount.0 }
 {
-    if !sound::sound(book) {
+    if !sound::is_sound(book) {
         return Err(Refusal::UnsoundBook);
     }
     let sale = Sale {

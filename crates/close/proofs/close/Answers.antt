@@ -8,13 +8,13 @@ use Rattle.rule.proofs.BookLaws.{sound-book}
 use Rattle.close.specs.Closed.{close_sound}
 use Rattle.close.proofs.close.Goals as goal
 
-pub returns-then-not-sound : goal.returns-then-not-sound
+pub returns-then-not-is_sound : goal.returns-then-not-is_sound
 unfolding close_of refusal
-returns-then-not-sound c = search (answers, flag-no, rules)
+returns-then-not-is_sound c = search (answers, flag-no, rules)
 
 pub close_sound-requires : goal.close_sound-requires
 close_sound-requires c =
-    sound-book _ (λ j. omega (arith, c.type_inv.book j)) (said-yes _ _ c.sound.ensures c.if-not-sound.false)
+    sound-book _ (λ j. omega (arith, c.type_inv.book j)) (said-yes _ _ c.is_sound.ensures c.if-not-is_sound.false)
 
 pub returns : goal.returns
 unfolding close_of refusal close_sound

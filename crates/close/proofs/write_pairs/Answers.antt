@@ -1,7 +1,7 @@
 use Rattle.std.proofs.Common.{◌+◌, ◌*◌, arith}
 use Rattle.std.proofs.lemmas.List.{take_rest}
 use Rattle.rule.specs.Layout.{today_at}
-use Rattle.rows.proofs.CopyLaws.{lent-to, lent-from, lent-back}
+use Rattle.lists.proofs.CopyLaws.{lent-to, lent-from, lent-back}
 use Rattle.close.proofs.CloseLaws.{covered_none, covered-room, covered_more, covered-all, square-small}
 use Rattle.close.proofs.write_pairs.Goals as goal
 

@@ -1,5 +1,5 @@
 -- `run::names_each_once` meets its contract. Assumes nothing.
-use Rattle.std.proofs.Common.{ℕ, ◌==◌, refl, ap, ◌∙◌, eqb, ne_eqb, rules}
+use Rattle.std.proofs.Common.{ℕ, refl, ap, ◌∙◌, eqb, ne_eqb, rules}
 use Rattle.std.specs.List.{count_by}
 use Rattle.lists.proofs.TestLaws.{all-ext}
 use Rattle.ranges.proofs.ScanLaws.{all-below}

@@ -8,13 +8,13 @@ use Rattle.rule.proofs.BookLaws.{sound-book}
 use Rattle.run.specs.Checked.{run_sound}
 use Rattle.run.proofs.run.Goals as goal
 
-pub returns-then-not-sound : goal.returns-then-not-sound
+pub returns-then-not-is_sound : goal.returns-then-not-is_sound
 unfolding run_of refusal
-returns-then-not-sound c = search (answers, flag-no, rules)
+returns-then-not-is_sound c = search (answers, flag-no, rules)
 
 pub run_sound-requires : goal.run_sound-requires
 run_sound-requires c =
-    sound-book _ (λ j. search rules) (said-yes _ _ c.sound.ensures c.if-not-sound.false)
+    sound-book _ (λ j. search rules) (said-yes _ _ c.is_sound.ensures c.if-not-is_sound.false)
 
 pub returns : goal.returns
 unfolding run_of refusal run_sound

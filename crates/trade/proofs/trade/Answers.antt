@@ -8,13 +8,13 @@ use Rattle.rule.proofs.BookLaws.{sound-book}
 use Rattle.trade.specs.Checked.{trade_sound}
 use Rattle.trade.proofs.trade.Goals as goal
 
-pub returns-then-not-sound : goal.returns-then-not-sound
+pub returns-then-not-is_sound : goal.returns-then-not-is_sound
 unfolding trade_of refusal
-returns-then-not-sound c = search (answers, said-no, rules)
+returns-then-not-is_sound c = search (answers, said-no, rules)
 
 pub enter-requires : goal.enter-requires
 enter-requires c =
-    sound-book _ (λ j. search rules) (said-yes _ _ c.sound.ensures c.if-not-sound.false)
+    sound-book _ (λ j. search rules) (said-yes _ _ c.is_sound.ensures c.if-not-is_sound.false)
 
 pub returns : goal.returns
 unfolding trade_of refusal trade_sound

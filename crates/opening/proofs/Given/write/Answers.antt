@@ -2,7 +2,7 @@
 use Rattle.std.proofs.Common.{List, ℕ, ◌+◌, ◌-◌, length, refl, ap}
 use borrow.Rule.Slice.PartMut.{put_mid}
 use Rattle.lists.proofs.TableLaws.{filled-zeros}
-use Rattle.rows.proofs.CopyLaws.{lent-back}
+use Rattle.lists.proofs.CopyLaws.{lent-back}
 use Rattle.rule.specs.Layout.{codes_at, terms_at}
 use Rattle.opening.proofs.OpenLaws.{sized, receipts-room, all-written}
 use Rattle.opening.proofs.Given.write.Goals as goal

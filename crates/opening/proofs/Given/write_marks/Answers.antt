@@ -1,6 +1,6 @@
 use Rattle.std.proofs.Common.{◌*◌, arith}
 use Rattle.std.proofs.lemmas.List.{take_rest}
-use Rattle.rows.proofs.CopyLaws.{lent-to, lent-from, lent-back}
+use Rattle.lists.proofs.CopyLaws.{lent-to, lent-from, lent-back}
 use Rattle.opening.proofs.OpenLaws.{marks_fit_book, marked-none, marked_more, marked_all, marks-of}
 use Rattle.opening.proofs.Given.write_marks.Goals as goal
 

@@ -1,12 +1,11 @@
 -- `trade::Sale::move_yen` meets its contract. Assumes nothing.
-use Rattle.std.proofs.Common.{arith, le-leb, refl}
+use Rattle.std.proofs.Common.{arith, le-leb}
 use Rattle.std.proofs.lemmas.Bool.{lt-leb}
 use Rattle.lists.proofs.TestLaws.{said-no, said-yes}
 use Rattle.rule.specs.Calls.{trade_checks}
 use Rattle.rule.specs.Layout.{view}
 use Rattle.rule.proofs.AnswerLaws.{refuse, pass, accept, denied, granted}
 use Rattle.trade.specs.Checked.{trade_between}
-use Rattle.trade.specs.Positions.{moved_of}
 use Rattle.trade.proofs.TradeLaws.{sold-is, bought-is, over, not-over, accepted-trade}
 use Rattle.trade.proofs.Sale.move_yen.Goals as goal
 
@@ -20,7 +19,7 @@ unfolding trade_between trade_checks view
 returns-then-owed_of-gt-POSITION c =
     let a = c.args.self in
     let r = c.requires in
-    let sold = sold-is c.args.book.now r.sound a.basket a.seller _ a.amount.0 r.basket r.sells c.place-at_seller.ensures r.most _ c.owed_of.ensures in
+    let sold = sold-is c.args.book.now r.sound a.basket a.seller _ a.amount.0 r.basket r.sells c.place-at_seller.ensures r.most _ _ c.more-sold.ensures c.owed_of.ensures in
     pass 9 _ _ _ _ _ _ (granted _ (said-yes _ _ c.tradable.ensures c.if-not-tradable.false))
     (refuse 10 _ _ _ _ _ (omega arith) (over _ _ _ sold c.if-owed_of-gt-POSITION.true))
 
@@ -29,8 +28,8 @@ unfolding trade_between trade_checks view
 returns-then-due_of-gt-POSITION c =
     let a = c.args.self in
     let r = c.requires in
-    let sold = sold-is c.args.book.now r.sound a.basket a.seller _ a.amount.0 r.basket r.sells c.place-at_seller.ensures r.most _ c.owed_of.ensures in
-    let bought = bought-is c.args.book.now r.sound a.basket a.buyer _ a.amount.0 r.basket r.buys c.place-at_buyer.ensures r.most _ c.due_of.ensures in
+    let sold = sold-is c.args.book.now r.sound a.basket a.seller _ a.amount.0 r.basket r.sells c.place-at_seller.ensures r.most _ _ c.more-sold.ensures c.owed_of.ensures in
+    let bought = bought-is c.args.book.now r.sound a.basket a.buyer _ a.amount.0 r.basket r.buys c.place-at_buyer.ensures r.most _ _ c.less-bought.ensures c.due_of.ensures in
     pass 9 _ _ _ _ _ _ (granted _ (said-yes _ _ c.tradable.ensures c.if-not-tradable.false))
     (pass 10 _ _ _ _ _ _ (not-over _ _ _ sold c.if-owed_of-gt-POSITION.false)
     (refuse 10 _ _ _ _ _ (omega arith) (over _ _ _ bought c.if-due_of-gt-POSITION.true)))
@@ -40,21 +39,21 @@ unfolding trade_between trade_checks view
 returns-then-trades-ge-TRADES c =
     let a = c.args.self in
     let r = c.requires in
-    let sold = sold-is c.args.book.now r.sound a.basket a.seller _ a.amount.0 r.basket r.sells c.place-at_seller.ensures r.most _ c.owed_of.ensures in
-    let bought = bought-is c.args.book.now r.sound a.basket a.buyer _ a.amount.0 r.basket r.buys c.place-at_buyer.ensures r.most _ c.due_of.ensures in
+    let sold = sold-is c.args.book.now r.sound a.basket a.seller _ a.amount.0 r.basket r.sells c.place-at_seller.ensures r.most _ _ c.more-sold.ensures c.owed_of.ensures in
+    let bought = bought-is c.args.book.now r.sound a.basket a.buyer _ a.amount.0 r.basket r.buys c.place-at_buyer.ensures r.most _ _ c.less-bought.ensures c.due_of.ensures in
     pass 9 _ _ _ _ _ _ (granted _ (said-yes _ _ c.tradable.ensures c.if-not-tradable.false))
     (pass 10 _ _ _ _ _ _ (not-over _ _ _ sold c.if-owed_of-gt-POSITION.false)
     (pass 10 _ _ _ _ _ _ (not-over _ _ _ bought c.if-due_of-gt-POSITION.false)
     (refuse 11 _ _ _ _ _ (omega arith) (le-leb _ _ c.if-trades-ge-TRADES.true))))
 
 pub returns : goal.returns
-unfolding trade_between trade_checks view moved_of
+unfolding trade_between trade_checks view
 returns c =
     let a = c.args.self in
     let r = c.requires in
-    let sold = sold-is c.args.book.now r.sound a.basket a.seller _ a.amount.0 r.basket r.sells c.place-at_seller.ensures r.most _ c.owed_of.ensures in
-    let bought = bought-is c.args.book.now r.sound a.basket a.buyer _ a.amount.0 r.basket r.buys c.place-at_buyer.ensures r.most _ c.due_of.ensures in
-    let made = accepted-trade c.args.book.now a.seller a.buyer a.basket a.amount.0 r _ _ _ _ _ refl c.place-at_seller.ensures c.place-at_buyer.ensures
+    let sold = sold-is c.args.book.now r.sound a.basket a.seller _ a.amount.0 r.basket r.sells c.place-at_seller.ensures r.most _ _ c.more-sold.ensures c.owed_of.ensures in
+    let bought = bought-is c.args.book.now r.sound a.basket a.buyer _ a.amount.0 r.basket r.buys c.place-at_buyer.ensures r.most _ _ c.less-bought.ensures c.due_of.ensures in
+    let made = accepted-trade c.args.book.now a.seller a.buyer a.basket a.amount.0 r _ _ _ _ _ _ c.more-sold.ensures c.less-bought.ensures c.place-at_seller.ensures c.place-at_buyer.ensures
     (said-yes _ _ c.tradable.ensures c.if-not-tradable.false) sold c.if-owed_of-gt-POSITION.false bought c.if-due_of-gt-POSITION.false c.if-trades-ge-TRADES.false in
     pass 9 _ _ _ _ _ _ (granted _ (said-yes _ _ c.tradable.ensures c.if-not-tradable.false))
     (pass 10 _ _ _ _ _ _ (not-over _ _ _ sold c.if-owed_of-gt-POSITION.false)

@@ -1,6 +1,0 @@
--- `book::sound::Book::basket_fits` meets its contract. One pass over the positions, with two sums. Assumes nothing.
-use Rattle.book.proofs.SoundLaws.{Summed}
-use Rattle.book.proofs.sound.Book.basket_fits.Given as goal
-
-abbrev pub invariant-loop-cell : goal.invariant-loop-cell
-invariant-loop-cell l = Summed l.limit.most l.cell-items l.owed l.due l.cell-index

@@ -1,9 +1,0 @@
--- `orders::load_order` meets its contract. Assumes nothing.
-use Rattle.orders.proofs.OrderLaws.{rank-asks, all-loaded}
-use Rattle.orders.proofs.load_order.Goals as goal
-
-pub rank_issues-requires : goal.rank_issues-requires
-rank_issues-requires c = rank-asks c.requires _
-
-pub returns : goal.returns
-returns c = all-loaded c.requires c.rank_issues.ensures _ c.issue_order.ensures

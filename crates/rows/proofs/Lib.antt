@@ -1,3 +1,0 @@
--- Laws that the proofs cite.
-pub mod RowLaws
-pub mod CopyLaws

@@ -1,6 +1,0 @@
--- `rows::Rows::copy_to` meets its contract: the rows below p are copied. Assumes nothing.
-use Rattle.rows.proofs.CopyLaws.{Copied}
-use Rattle.rows.proofs.Rows.copy_to.Given as goal
-
-abbrev pub invariant-loop-p : goal.invariant-loop-p
-invariant-loop-p l = Copied l.initial.cells 0 l.stride l.self.n l.self.m l.self.cells.now 0 l.self.apart l.cells l.p

@@ -1,7 +1,0 @@
--- `rows::copy_with` meets its contract: of a copy of the source the cells below the index are what f made. Assumes nothing.
-use Rattle.std.proofs.Common.{slice_index}
-use Rattle.rows.proofs.RowLaws.{Changed}
-use Rattle.rows.proofs.copy_with.Given as goal
-
-abbrev pub invariant-loop-cell : goal.invariant-loop-cell
-invariant-loop-cell g l = Changed (λ k x. goal.F-post g l.f (slice_index l.source k) x) l.source l.cell-items l.cell-index

@@ -1,2 +1,0 @@
--- What the contracts of rows cite.
-pub mod Rows

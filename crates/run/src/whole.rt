@@ -1,0 +1,79 @@
+// A run on a sound book: the seven baskets, and what they leave.
+ghost use Rattle.run_order.specs.Sizes.{Sized};
+ghost use Rattle.run_post.specs.Listed.{SameLists};
+ghost use Rattle.run_basket.specs.Running.{Start};
+ghost use Rattle.run.specs.Ran.{BasketsAsk, BasketsDone, Cleared, Ran};
+
+use issue_order::Order;
+use reply::Counts;
+use run_post::listing::Lists;
+use run_usable::Stock;
+
+// "Basket by basket, A first".
+fn run_baskets(book: &mut [u64], draw: &[u64], stock: Stock, lists: &mut Lists)
+    requires { BasketsAsk book.old draw.now stock lists.old }
+    ensures done { BasketsDone book.old draw.now lists.old.matches.now lists.old.lines.now book.new lists.new }
+    ensures same { SameLists lists.old lists.new }
+{
+    let mut used = [0u64; 384];
+    // one for all baskets: zeros for each would be overwritten at once
+    let mut before = [0u64; 384];
+    // no deliverer's issues are ranked yet
+    let mut orders: [Order; 12] = Default::default();
+    for k in 0..layout::BASKETS {
+        run_basket::run_basket(
+            &mut *book,
+            k,
+            draw,
+            stock,
+            &mut orders[..],
+            &mut used[..],
+            &mut before,
+            &mut *lists,
+        );
+    }
+}
+
+// "Every accepted run clears all notices".
+fn clear_notices(book: &mut [u64])
+    requires { Sized book.old }
+    ensures { Cleared book.old book.new }
+{
+    let participants = book[layout::PARTICIPANTS] as usize;
+    let issues = book[layout::ISSUES] as usize;
+    for p in 0..participants {
+        let at = layout::NOTICES + layout::MOST_ISSUES * p;
+        let end = at + issues;
+        book[at..end].fill(0);
+    }
+}
+
+// A run on a sound book, with a right draw and lists that are long enough. The book stays a slice, as the C interface lends it, and is written
+// between: each function that reads its sizes asks for them.
+pub fn run(book: &mut [u64], draw: &[u64], matches: &mut [u64], lines: &mut [u64]) -> Counts
+    requires { Start book.old draw.now matches.old lines.old }
+    ensures { Ran book.old draw.now matches.old lines.old book.new matches.new lines.new result.matches result.lines }
+{
+    let issues = book[layout::ISSUES] as usize;
+    let mut cells = [0u64; 32];
+    let rates = &mut cells[..issues];
+    value::rates_of(&book[layout::TERMS..layout::RECEIPTS], &mut *rates);
+    let mut allocable = [0u64; 384];
+    run_usable::allocable_rows(&*book, &mut allocable[..]);
+    let stock = Stock {
+        rates,
+        allocable: &allocable[..],
+    };
+    let mut lists = Lists {
+        matches,
+        lines,
+        counts: Counts {
+            matches: 0,
+            lines: 0,
+        },
+    };
+    run_baskets(&mut *book, draw, stock, &mut lists);
+    clear_notices(&mut *book);
+    book[layout::RUNS] = book[layout::RUNS] + 1;
+    lists.counts
+}

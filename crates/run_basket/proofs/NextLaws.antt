@@ -1,0 +1,216 @@
+-- Laws of the next match of a basket: that the code fills the definition's match. Assumes nothing.
+use mathlib.Core.Path.{◌≡◌, refl, sym, ap, ap₂, ◌∙◌, subst}
+use mathlib.Core.Logic.{◌⊎◌, inl, inr}
+use mathlib.Core.Bool.{Bool, true, false}
+use mathlib.Core.List.{List, [], ◌∷◌, ◌++◌}
+use Prim.Native.Nat.{ℕ, ◌+◌, ◌-◌, ◌*◌, ◌<◌}
+use native.Mathlib.Nat.{le_refl}
+use native.Mathlib.Omega.{arith}
+use lib.ListN.{length, get_or, length-map}
+use Rattle.lists.specs.Tests.{pick}
+use Rattle.lists.specs.Tables.{table, row, cell}
+use Rattle.lists.specs.Folds.{keep, Every}
+use Rattle.lists.specs.Order.{ranked}
+use Rattle.lists.specs.Parts.{block}
+use Rattle.lists.proofs.TableLaws.{get_or-table, get_d_map}
+use Rattle.lists.proofs.PartLaws.{blocks-agree, table-agree}
+use Rattle.rule.specs.Value.{Terms, no_terms}
+use Rattle.rule.specs.Baskets.{within}
+use Rattle.rule.specs.Matching.{Match}
+use Rattle.rule.specs.Filling.{Filled, filled, forced_issue}
+use Rattle.rule.specs.Day.{Day}
+use Rattle.rule.specs.Run.{Allocation, used, used_table, allocable_of, usable, issue_order, allocate, basket_plan}
+use Rattle.rule.specs.Layout.{notices_at, view}
+use Rattle.rule.proofs.LayoutLaws.{view-shaped, view-signed}
+use Rattle.rule.proofs.RunLaws.{Runnable, Allocated, allocated}
+use Rattle.rule.proofs.RunLots.{used-append, used-cell}
+use Rattle.matching.specs.Plans.{match_of}
+use Rattle.matching.specs.declared.Match.{Match as Entry}
+use Rattle.filling.specs.Match.{Idle}
+use Rattle.filling.proofs.KeptLaws.{filled-kept}
+use Rattle.issue_order.specs.Ordered.{Ordered, order_key}
+use Rattle.issue_order.proofs.OrderLaws.{ordered-moved}
+use Rattle.lists.proofs.FoldLaws.{every_map}
+use Rattle.lists.proofs.OrderLaws.{ranked-alike, ranked-below}
+use Rattle.arrayvec.specs.ArrayVec.{ArrayVec}
+use Rattle.run_usable.specs.Stock.{inside_of, usable_of}
+use Rattle.run_order.specs.Sizes.{participants_in, issues_in}
+use Rattle.run_order.specs.Orders.{key_in, OrderedAt, OrderFor}
+use Rattle.run_match.specs.Filled.{book_terms, may_use, usable_in, UsableLots, filled_in}
+use Rattle.run_match.specs.declared.Basket.{Basket}
+use Rattle.run_post.specs.declared.listing.Lists.{Lists}
+use Rattle.run_basket.specs.Running.{done_to, done_in, done_at, Start, Running, Stocked, Planning}
+use Rattle.run_basket.proofs.DoneLaws.{next_of, done_next, Part, part_at, part-every}
+use Rattle.run_basket.proofs.ReadLaws.{terms-read, notices-read, runs-read, allocable-read, terms-are, low-kept, issues-kept, terms-kept, notices-kept}
+
+pub runnable : (b draw m₀ l₀ : List ℕ) → Start b draw m₀ l₀ → Runnable (view b) draw
+unfolding view
+runnable b draw m₀ l₀ s = record {
+  shaped = view-shaped b s.book.readable;
+  signed = view-signed b s.book.readable;
+  day = s.book.day;
+  runs = s.runs;
+  once = s.once;
+}
+
+last_of : (P : Allocation → Type 0) (xs : List Allocation) (a : Allocation) → Every P (xs ++ (a ∷ [])) → P a
+last_of P [] a h = h.0
+last_of P (x ∷ xs) a h = last_of P xs a h.1
+
+module _ (b draw m₀ l₀ : List ℕ) (S : Start b draw m₀ l₀) (B : Basket) (basket : B.number < 7) (made : List Entry)
+    (P : Planning b draw B made) (j : ℕ) (e : Entry) (l : j < length made) (E : e ≡ get_or made j e) where
+  abbrev k : ℕ
+  k = B.number
+
+  abbrev before : List ℕ
+  before = B.before.now
+
+  abbrev y : Day
+  y = view b
+
+  abbrev m : ℕ
+  m = issues_in b
+
+  abbrev d : ℕ
+  d = e.deliverer
+
+  abbrev done : List Allocation
+  done = done_at (view b) draw k j
+
+  -- the match of the plan, filled
+  abbrev pub next : Allocation
+  next = next_of (view b) draw k j (match_of e)
+
+  counted : length (basket_plan (view b) draw k) ≡ length made
+  counted = sym (ap length P.planned) ∙ length-map made match_of
+
+  planned-here : match_of e ≡ get_or (basket_plan (view b) draw k) j (match_of e)
+  planned-here =
+      ap match_of E ∙ sym (get_d_map match_of made j e (match_of e) l) ∙ ap (λ (ms : List Match). get_or ms j (match_of e)) P.planned
+
+  pub next-is : done_at (view b) draw k (j + 1) ≡ done ++ (next ∷ [])
+  next-is =
+      done_next (view b) draw k j (match_of e) (omega (arith, counted))
+      ∙ ap (λ (x : Match). done ++ (next_of (view b) draw k j x ∷ [])) (sym planned-here)
+
+  pub next-part : Part (view b) draw (done ++ (next ∷ []))
+  next-part = subst (Part (view b) draw) next-is (part_at (view b) draw k (j + 1) basket (omega (arith, counted)) (match_of e))
+
+  pub next-allocated : Allocated (view b) next
+  next-allocated = last_of (Allocated (view b)) done next (part-every (view b) draw (Allocated (view b)) next-part (allocated (view b) draw (runnable b draw m₀ l₀ S)))
+
+  -- what it says
+  pub next-deliverer : next.match.deliverer ≡ d
+  unfolding next_of allocate
+  next-deliverer = refl
+
+  pub next-receiver : next.match.receiver ≡ e.receiver
+  unfolding next_of allocate
+  next-receiver = refl
+
+  pub next-amount : next.match.amount ≡ e.amount.0
+  unfolding next_of allocate
+  next-amount = refl
+
+  pub deliverer-of-day : d < participants_in b
+  unfolding view
+  deliverer-of-day = omega (arith, next-allocated.deliverer, next-deliverer)
+
+  pub receiver-of-day : e.receiver < participants_in b
+  unfolding view
+  receiver-of-day = omega (arith, next-allocated.receiver, next-receiver)
+
+  -- ---- filled as the definition fills it
+
+  module _ (T : Stocked b B.stock) (c used' : List ℕ) (t : Lists) (R : Running b m₀ l₀ done c used' t)
+      (usable' : List ℕ) (all : ℕ) (U : UsableLots c B e used' usable' all) (orders : List (ArrayVec ℕ)) (order : List ℕ) (O : OrderFor c before e usable' all orders order) where
+    used-here : (i : ℕ) → i < m → get_or used' (32 * d + i) 0 ≡ cell (used_table (view b).given (done_to (view b) draw k)) d i + used (done_in (view b) draw k j) d i
+    unfolding done_at view
+    used-here i h =
+        R.gone d i deliverer-of-day h ∙ used-append (done_to (view b) draw k) (done_in (view b) draw k j) d i
+        ∙ ap (λ (x : ℕ). x + used (done_in (view b) draw k j) d i) (sym (used-cell (view b).given (done_to (view b) draw k) d i deliverer-of-day h))
+
+    usable-cell : (i : ℕ) → i < m
+        → may_use B used' d i
+        ≡ pick (within k (get_or (view b).given.terms i no_terms)) (allocable_of (view b) d i - (cell (used_table (view b).given (done_to (view b) draw k)) d i + used (done_in (view b) draw k j) d i)) 0
+    unfolding usable_of inside_of
+    usable-cell i h =
+        ap₂ (λ (t : Bool) (x : ℕ). pick {X = ℕ} t x 0)
+        (ap (λ (r : List Bool). get_or r i false) P.inside_is ∙ get_or-table m (inside_of b k) i false h ∙ ap (within k) (sym (terms-read b i h)))
+        (ap₂ (λ (x z : ℕ). x - z) (T.lots.each d i deliverer-of-day h ∙ sym (allocable-read b d i deliverer-of-day h)) (used-here i h))
+
+    usable_same : usable_in c B used' d ≡ usable (view b) k (used_table (view b).given (done_to (view b) draw k)) (done_in (view b) draw k j) d
+    unfolding usable view
+    usable_same =
+        ap (λ (x : ℕ). table x (may_use B used' d)) (issues-kept b S.book done c R.booked)
+        ∙ table-agree m (may_use B used' d) _ usable-cell
+
+    -- the order's keys are the definition's
+    order-of : (preferential : Bool) → ranked (λ i. order_key preferential (get_or b (notices_at + 32 * d + i) 0) (get_or before (32 * d + i) 0)) m
+        ≡ issue_order (view b) (used_table (view b).given (done_to (view b) draw k)) preferential d
+    unfolding issue_order view
+    order-of true = ranked-alike _ _ m (λ i h. sym (notices-read b d i deliverer-of-day h))
+    order-of false =
+        ranked-alike _ _ m (λ i h.
+        ap₂ (λ (x z : ℕ). x - z) (sym (notices-read b d i deliverer-of-day h))
+        (P.before_at d i deliverer-of-day h ∙ sym (used-cell (view b).given (done_to (view b) draw k) d i deliverer-of-day h)))
+
+    issues-same : issues_in c ≡ m
+    issues-same = issues-kept b S.book done c R.booked
+
+    notice-same : (i : ℕ) → i < m → get_or c (notices_at + 32 * d + i) 0 ≡ get_or b (notices_at + 32 * d + i) 0
+    notice-same i h =
+        notices-kept b S.book done c R.booked (notices_at + 32 * d + i) (omega arith) (omega (arith, deliverer-of-day, S.book.sizes.few, S.book.sizes.most))
+
+    abbrev pref : Bool
+    pref = e.preferential
+
+    abbrev o : List ℕ
+    o = issue_order (view b) (used_table (view b).given (done_to (view b) draw k)) pref d
+
+    abbrev key : ℕ → ℕ
+    key = key_in b before d pref
+
+    order-moved : OrderedAt c before e (λ i. get_or usable' i 0) order → Ordered m key (λ i. get_or usable' i 0) order
+    order-moved h =
+        ordered-moved issues-same
+        (λ i l. ap (λ (x : ℕ). order_key pref x (get_or before (32 * d + i) 0)) (notice-same i (omega (arith, issues-same)))) (λ i l. le_refl _) h
+
+    notified-same : block c (notices_at + 32 * d) (issues_in c) ≡ row (view b).state.notices d
+    unfolding view
+    notified-same =
+        ap (block c (notices_at + 32 * d)) issues-same
+        ∙ blocks-agree c b (notices_at + 32 * d) m (R.booked.size ∙ sym S.book.readable.size) notice-same
+        ∙ sym (get_or-table (participants_in b) (λ p. block b (notices_at + 32 * p) m) d [] deliverer-of-day)
+
+    terms-same : book_terms c ≡ (view b).given.terms
+    terms-same = terms-kept b S.book done c R.booked ∙ terms-are b S.book.sizes.most (omega (arith, S.book.readable.size))
+
+    runs_same : get_or c 2 0 ≡ (view b).state.runs
+    runs_same = low-kept b S.book done c R.booked 2 (omega arith) ∙ sym (runs-read b)
+
+    abbrev amount : ℕ
+    amount = e.amount.0
+
+    abbrev with-order : List ℕ → Filled
+    with-order x = filled (get_or c 2 0) pref (book_terms c) usable' x (forced_issue k (book_terms c) (block c (notices_at + 32 * d) (issues_in c))) amount
+
+    -- an issue that the order leaves out takes nothing in its turn
+    order-kept : (h : Ordered m key (λ i. get_or usable' i 0) order) → with-order (keep h.live (ranked key m)) ≡ with-order (ranked key m)
+    order-kept h =
+        filled-kept (get_or c 2 0) pref (book_terms c) usable' (ranked key m) h.live (forced_issue k (book_terms c) (block c (notices_at + 32 * d) (issues_in c))) amount
+        (every_map (λ i. i < m) (λ i. h.live i ≡ false → get_or usable' i 0 ≡ 0)
+        (λ i l e. h.rest i l e) (ranked key m) (ranked-below key m))
+
+    order-right : OrderedAt c before e (λ i. get_or usable' i 0) order ⊎ Idle (get_or c 2 0) all amount → with-order order ≡ with-order o
+    order-right (inl h) = ap with-order (order-moved h).names ∙ order-kept (order-moved h) ∙ ap with-order (order-of pref)
+    order-right (inr h) = h.same pref (book_terms c) usable' order o _ U.worth_is
+
+    pub next-filled : filled_in c k e usable' order ≡ next.filled
+    unfolding filled_in next_of allocate
+    next-filled =
+        let u : List ℕ = usable (view b) k (used_table (view b).given (done_to (view b) draw k)) (done_in (view b) draw k j) d in
+        order-right O.fits
+        ∙ ap₂ (λ (r : ℕ) (x : List ℕ). filled r pref (book_terms c) x o (forced_issue k (book_terms c) (block c (notices_at + 32 * d) (issues_in c))) amount) runs_same (U.row ∙ usable_same)
+        ∙ ap (λ (f : List ℕ). filled (view b).state.runs pref (book_terms c) u o (forced_issue k (book_terms c) f) amount) notified-same
+        ∙ ap (λ (ts : List Terms). filled (view b).state.runs pref ts u o (forced_issue k ts (row (view b).state.notices d)) amount) terms-same

@@ -1,0 +1,190 @@
+-- Laws of reading the book: what the cells say of the day, and that a run's bookings leave them. Assumes nothing.
+use mathlib.Core.Path.{◌≡◌, refl, sym, ap, ap₂, ◌∙◌, subst}
+use mathlib.Core.Logic.{◌≢◌}
+use mathlib.Core.Bool.{◌&&◌}
+use mathlib.Core.List.{List, [], ◌∷◌, ◌++◌, map}
+use Prim.Native.Nat.{ℕ, zero, suc, ◌+◌, ◌-◌, ◌*◌, ◌≤◌, ◌<◌}
+use native.Mathlib.Numerals.{add-one}
+use native.Mathlib.Omega.{arith}
+use lib.ListN.{length, get_or}
+use lib.Dec.{eqb}
+use borrow.Author.Tests.{ne_eqb}
+use Rattle.lists.specs.Tests.{pick}
+use Rattle.lists.specs.Tables.{table, row, cell}
+use Rattle.lists.specs.Folds.{total, Every}
+use Rattle.lists.specs.Parts.{block, grid}
+use Rattle.lists.proofs.TestLaws.{pick_no, stop}
+use Rattle.lists.proofs.FoldLaws.{fold-kept, every_append, every-all}
+use Rattle.lists.proofs.TableLaws.{get_or-table, get_d_map, length-table}
+use Rattle.lists.proofs.PartLaws.{blocks-agree, grid-get, table-agree, grid-agree}
+use Rattle.rule.specs.Value.{Terms, no_terms}
+use Rattle.rule.specs.Allocable.{allocable}
+use Rattle.rule.specs.Matching.{plan}
+use Rattle.rule.specs.Day.{Day, terms_of}
+use Rattle.rule.specs.Run.{Allocation, used_table, allocate, basket_plan, basket, allocable_of, covered_from, covered_to}
+use Rattle.rule.specs.Layout.{terms_at, receipts_at, pairs_at, positions_at, notices_at, today_at, plus, minus, view, signed}
+use Rattle.rule.proofs.BookLaws.{SoundBook}
+use Rattle.matching.proofs.ListLaws.{block-block}
+use Rattle.value.specs.Rated.{terms_in as terms_of_block}
+use Rattle.run_usable.specs.Stock.{terms_in, allocable_in}
+use Rattle.run_post.specs.Booked.{position_at}
+use Rattle.run_order.specs.Sizes.{participants_in, issues_in, Sized}
+use Rattle.run_match.specs.Filled.{positions_in, plan_in, book_terms}
+use Rattle.run_basket.specs.Running.{done_to, BookedTo}
+use Rattle.run_basket.proofs.DoneLaws.{to-more}
+use Rattle.run_basket.proofs.BookedLaws.{booked-none}
+
+-- ---- the day in the cells
+
+module _ (b : List ℕ) where
+  pub terms-read : (i : ℕ) → i < issues_in b → get_or (view b).given.terms i no_terms ≡ terms_in b i
+  unfolding view terms_in
+  terms-read i l =
+      get_d_map terms_of (grid b terms_at 6 (issues_in b) 6) i [] no_terms (omega (arith, length-table (issues_in b) (λ p. block b (terms_at + 6 * p) 6)))
+      ∙ ap terms_of (get_or-table (issues_in b) (λ p. block b (terms_at + 6 * p) 6) i [] l)
+
+  pub notices-read : (p i : ℕ) → p < participants_in b → i < issues_in b → cell (view b).state.notices p i ≡ get_or b (notices_at + 32 * p + i) 0
+  unfolding view
+  notices-read p i l k = grid-get b notices_at 32 (participants_in b) (issues_in b) p i l k
+
+  receipts-read : (p i : ℕ) → p < participants_in b → i < issues_in b → cell (view b).given.receipts p i ≡ get_or b (receipts_at + 32 * p + i) 0
+  unfolding view
+  receipts-read p i l k = grid-get b receipts_at 32 (participants_in b) (issues_in b) p i l k
+
+  pub runs-read : (view b).state.runs ≡ get_or b 2 0
+  unfolding view
+  runs-read = refl
+
+  pub allocable-read : (p i : ℕ) → p < participants_in b → i < issues_in b → allocable_of (view b) p i ≡ allocable_in b p i
+  unfolding allocable_of allocable_in
+  allocable-read p i l k =
+      ap₂ (λ (r : ℕ) (t : Terms). allocable r t (cell (view b).state.notices p i) (cell (view b).given.receipts p i)) runs-read (terms-read i k)
+      ∙ ap₂ (λ (x z : ℕ). allocable (get_or b 2 0) (terms_in b i) x z) (notices-read p i l k) (receipts-read p i l k)
+
+  pub terms-are : issues_in b ≤ 32 → terms_at + 192 ≤ length b → book_terms b ≡ (view b).given.terms
+  unfolding view terms_of_block
+  terms-are few room =
+      ap (map terms_of) (table-agree (issues_in b) (λ p. block (block b terms_at 192) (0 + 6 * p) 6) (λ p. block b (terms_at + 6 * p) 6) (λ p l.
+      let e : terms_at + (0 + 6 * p) ≡ terms_at + 6 * p = omega arith in
+      block-block b terms_at 192 (0 + 6 * p) 6 (omega arith) room ∙ ap (λ (o : ℕ). block b o 6) e))
+
+  pub plan-read : (draw : List ℕ) (k : ℕ) → k < 7 → plan_in b draw k ≡ basket_plan (view b) draw k
+  unfolding plan_in basket_plan view
+  plan-read draw k l =
+      let n : ℕ = participants_in b in
+      let rows : ℕ → List ℕ = λ q. block b (positions_at + 12 * q) n in
+      let size : length (table 7 rows) ≡ 7 = length-table 7 rows in
+      let side : (f : ℕ → ℕ) → map f (positions_in b k) ≡ row (map (map f) (table 7 rows)) k =
+      λ f. sym (get_d_map (map f) (table 7 rows) k [] [] (omega arith) ∙ ap (map f) (get_or-table 7 rows k [] l)) in
+      ap₂ (λ (x : List ℕ) (z : List ℕ). plan (get_or b 2 0) (grid b (pairs_at + 144 * k) 12 n n) draw x z) (side plus) (side minus)
+      ∙ ap (λ (x : List (List ℕ)). plan (get_or b 2 0) x draw (row (map (map plus) (table 7 rows)) k) (row (map (map minus) (table 7 rows)) k))
+      (sym (get_or-table 7 (λ q. grid b (pairs_at + 144 * q) 12 n n) k [] l))
+
+-- ---- what a run's bookings leave
+
+module _ (b : List ℕ) (s : SoundBook b) (done : List Allocation) (c : List ℕ) (w : BookedTo b done c) where
+  -- all before the positions, and the notices
+  pub low-kept : (j : ℕ) → j < positions_at → get_or c j 0 ≡ get_or b j 0
+  low-kept j h = w.kept j (record { positions = λ k p l q e. omega arith; marks = λ k d r l q m e. omega arith; tally = λ p i l q e. omega arith })
+
+  pub notices-kept : (j : ℕ) → notices_at ≤ j → j < today_at → get_or c j 0 ≡ get_or b j 0
+  notices-kept j h l =
+      w.kept j (record { positions = λ k p m q e. omega (arith, s.sizes.few); marks = λ k d r m q o e. omega arith; tally = λ p i m q e. omega arith })
+
+  pub issues-kept : issues_in c ≡ issues_in b
+  issues-kept = low-kept 1 (omega arith)
+
+  pub participants-kept : participants_in c ≡ participants_in b
+  participants-kept = low-kept 0 (omega arith)
+
+  pub sized-kept : Sized c
+  sized-kept = record {
+    cells = w.size;
+    participants = omega (arith, participants-kept, s.sizes.few);
+    some = omega (arith, issues-kept, s.sizes.one);
+    issues = omega (arith, issues-kept, s.sizes.most);
+  }
+
+  pub terms-kept : book_terms c ≡ book_terms b
+  terms-kept =
+      ap₂ terms_of_block issues-kept (blocks-agree c b terms_at 192 (w.size ∙ sym s.readable.size) (λ i l. low-kept (terms_at + i) (omega arith)))
+
+  pub terms-in-kept : (i : ℕ) → i < 32 → terms_in c i ≡ terms_in b i
+  unfolding terms_in
+  terms-in-kept i l =
+      ap terms_of (blocks-agree c b (terms_at + 6 * i) 6 (w.size ∙ sym s.readable.size) (λ j h. low-kept (terms_at + 6 * i + j) (omega arith)))
+
+  none_from : (k p : ℕ) → covered_from [] k p ≡ 0
+  unfolding covered_from
+  none_from k p = refl
+
+  none-to : (k p : ℕ) → covered_to [] k p ≡ 0
+  unfolding covered_to
+  none-to k p = refl
+
+  -- a basket of which nothing is covered yet
+  module _ (k : ℕ) (basket : k < 7) (fresh : (p : ℕ) → (covered_from done k p ≡ 0) × (covered_to done k p ≡ 0)) where
+    position-kept : (p : ℕ) → p < participants_in b → get_or c (position_at k p) 0 ≡ get_or b (position_at k p) 0
+    position-kept p l =
+        w.positions k p basket l
+        ∙ ap₂ (λ (x z : ℕ). signed (cell (view b).state.owed k p - x) (cell (view b).state.due k p - z)) ((fresh p).0 ∙ sym (none_from k p)) ((fresh p).1 ∙ sym (none-to k p))
+        ∙ sym ((booked-none b s).positions k p basket l)
+
+    plan-same : (draw : List ℕ) → get_or c 2 0 ≡ get_or b 2 0 → grid c (pairs_at + 144 * k) 12 (participants_in c) (participants_in c) ≡ grid b (pairs_at + 144 * k) 12 (participants_in b) (participants_in b)
+        → positions_in c k ≡ positions_in b k → plan_in c draw k ≡ plan_in b draw k
+    unfolding plan_in
+    plan-same draw r g p =
+        ap₂ (λ (x : ℕ) (z : List (List ℕ)). plan x z draw (map plus (positions_in c k)) (map minus (positions_in c k))) r g
+        ∙ ap (λ (x : List ℕ). plan (get_or b 2 0) (grid b (pairs_at + 144 * k) 12 (participants_in b) (participants_in b)) draw (map plus x) (map minus x)) p
+
+    pub plan-kept : (draw : List ℕ) → plan_in c draw k ≡ basket_plan (view b) draw k
+    plan-kept draw =
+        let e : length c ≡ length b = w.size ∙ sym s.readable.size in
+        let n : ℕ = participants_in b in
+        let positions : positions_in c k ≡ positions_in b k =
+        ap (block c (positions_at + 12 * k)) participants-kept ∙ blocks-agree c b (positions_at + 12 * k) n e (λ p l. position-kept p l) in
+        plan-same draw (low-kept 2 (omega arith))
+        (ap (λ (q : ℕ). grid c (pairs_at + 144 * k) 12 q q) participants-kept
+        ∙ grid-agree c b (pairs_at + 144 * k) 12 n n (λ p l. blocks-agree c b (pairs_at + 144 * k + 12 * p) n e (λ i m. low-kept (pairs_at + 144 * k + 12 * p + i) (omega (arith, s.sizes.few)))))
+        positions
+        ∙ plan-read b draw k basket
+
+-- ---- the baskets before k have covered nothing of basket k
+
+module _ (y : Day) (draw : List ℕ) where
+  of-basket : (k : ℕ) (before : List (List ℕ)) → Every (λ a. a.basket ≡ k) (basket y draw before k)
+  unfolding basket allocate
+  of-basket k before =
+      fold-kept (Every (λ a. a.basket ≡ k)) (λ m. Unit {0}) (λ done m. done ++ (allocate y k before done m ∷ []))
+      (λ done m u h. every_append (λ a. a.basket ≡ k) done (allocate y k before done m ∷ []) h (refl, tt))
+      (basket_plan y draw k) (every-all (λ m. Unit {0}) (λ m. tt) (basket_plan y draw k)) [] tt
+
+  every-imp : (P Q : Allocation → Type 0) → ((a : Allocation) → P a → Q a) → (l : List Allocation) → Every P l → Every Q l
+  every-imp P Q f [] h = tt
+  every-imp P Q f (a ∷ l) h = (f a h.0, every-imp P Q f l h.1)
+
+  before-first : Every (λ a. a.basket < 0) (done_to y draw 0)
+  unfolding done_to
+  before-first = tt
+
+  before-basket : (k : ℕ) → Every (λ a. a.basket < k) (done_to y draw k)
+  before-basket zero = before-first
+  before-basket (suc k) =
+      let before : List (List ℕ) = used_table y.given (done_to y draw k) in
+      subst (λ (l : List Allocation). Every (λ a. a.basket < suc k) l) (sym (to-more y draw k) ∙ ap (done_to y draw) (add-one k))
+      (every_append (λ a. a.basket < suc k) (done_to y draw k) (basket y draw before k)
+      (every-imp (λ a. a.basket < k) (λ a. a.basket < suc k) (λ a h. omega arith) (done_to y draw k) (before-basket k))
+      (every-imp (λ a. a.basket ≡ k) (λ a. a.basket < suc k) (λ a h. omega arith) (basket y draw before k) (of-basket k before)))
+
+  no-sum : (k : ℕ) (f g : Allocation → ℕ) (p : ℕ) (l : List Allocation) → Every (λ a. a.basket < k) l → total (λ a. pick (eqb a.basket k && eqb (g a) p) (f a) 0) l ≡ 0
+  no-sum k f g p [] h = refl
+  no-sum k f g p (a ∷ l) h =
+      omega (arith, pick_no (eqb a.basket k && eqb (g a) p) (f a) 0 (stop (eqb a.basket k) (eqb (g a) p) (ne_eqb a.basket k (apart h.0))), no-sum k f g p l h.1)
+    where
+      apart : {x z : ℕ} → x < z → x ≢ z
+      apart q e = omega arith
+
+  pub nothing-covered : (k p : ℕ) → (covered_from (done_to y draw k) k p ≡ 0) × (covered_to (done_to y draw k) k p ≡ 0)
+  unfolding covered_from covered_to
+  nothing-covered k p =
+      (no-sum k (λ a. a.filled.covered) (λ a. a.match.deliverer) p (done_to y draw k) (before-basket k), no-sum k (λ a. a.filled.covered) (λ a. a.match.receiver) p (done_to y draw k) (before-basket k))

@@ -1,0 +1,6 @@
+-- `run_match::Basket::fill_next` meets its contract. Assumes nothing.
+use Rattle.run_match.proofs.FillLaws.{fill_is}
+use Rattle.run_match.proofs.Basket.fill_next.Goals as goal
+
+pub returns : goal.returns
+returns c = fill_is c.requires _ c.as_slice.ensures.value c.fill_match.ensures

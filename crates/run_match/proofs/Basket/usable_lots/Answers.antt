@@ -1,0 +1,9 @@
+-- `run_match::Basket::usable_lots` meets its contract. Assumes nothing.
+use Rattle.run_match.proofs.FillLaws.{usable-asks, usable-are}
+use Rattle.run_match.proofs.Basket.usable_lots.Goals as goal
+
+pub usable_row-requires : goal.usable_row-requires
+usable_row-requires c = usable-asks c.requires
+
+pub returns : goal.returns
+returns c = usable-are c.requires c.usable_row.ensures

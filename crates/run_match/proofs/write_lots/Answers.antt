@@ -1,0 +1,6 @@
+-- `run_match::write_lots` meets its contract. Assumes nothing.
+use Rattle.run_match.proofs.WriteLaws.{lots-written}
+use Rattle.run_match.proofs.write_lots.Goals as goal
+
+pub returns : goal.returns
+returns c = lots-written c.requires c.write_issues.ensures

@@ -1,0 +1,163 @@
+// One match of a basket: what it may use, its filling, and what is written of it.
+#![tactic(auto)]
+
+ghost use Rattle.std.specs.Prelude.{length};
+ghost use Rattle.filling.specs.Match.{FilledAs};
+ghost use Rattle.matching.specs.Plans.{Planned};
+ghost use Rattle.run_match.specs.Filled.{Plannable, PlanRows, plan_in, UsableAsked, UsableLots, Fillable, filled_in, LotsWritable, LotsWritten, Writable, Wrote};
+
+use filling::{Filling, Supply};
+use issue_order::Order;
+use matching::{Match, Plan};
+use quantities::Yen;
+use run_post::listing::Lists;
+use run_post::{booking, issues};
+use run_usable::Stock;
+
+// The matches of the basket, from rows for what each participant owes and has due.
+fn plan_rows(
+    book: &[u64],
+    basket: usize,
+    draw: &[u64],
+    owed: &mut [u64],
+    due: &mut [u64],
+    plan: &mut Plan,
+)
+    requires { PlanRows book.now draw.now basket owed.old due.old }
+    ensures { Planned (plan_in book.now draw.now basket) plan.new }
+{
+    let positions = layout::POSITIONS + layout::MOST_PARTICIPANTS * basket;
+    let pairs = layout::PAIRS + layout::SQUARE * basket;
+    let pairs_end = pairs + layout::SQUARE;
+    let positions_end = positions + owed.len();
+    lists::copy_with(&mut *owed, &book[positions..positions_end], signed::owed_of);
+    lists::copy_with(&mut *due, &book[positions..positions_end], signed::due_of);
+    matching::plan(
+        book[layout::RUNS],
+        &book[pairs..pairs_end],
+        draw,
+        owed,
+        due,
+        plan,
+    );
+}
+
+// The matches of the basket.
+pub fn plan_basket(book: &[u64], basket: usize, draw: &[u64], plan: &mut Plan)
+    requires { Plannable book.now draw.now basket }
+    ensures { Planned (plan_in book.now draw.now basket) plan.new }
+{
+    let participants = book[layout::PARTICIPANTS] as usize;
+    let mut owed = [0u64; 12];
+    let mut due = [0u64; 12];
+    plan_rows(
+        book,
+        basket,
+        draw,
+        &mut owed[..participants],
+        &mut due[..participants],
+        plan,
+    );
+}
+
+// A basket, as its matches are filled: its number, what the run may allocate, which issues are of the basket, and the lots used in
+// earlier baskets.
+#[derive(Clone, Copy)]
+pub struct Basket<'a> {
+    pub number: usize,
+    pub stock: Stock<'a>,
+    pub inside: &'a [bool],
+    pub before: &'a [u64],
+}
+
+impl Basket<'_> {
+    // What a match may use, into a lent row, and what all of it is worth.
+    pub fn usable_lots(&self, book: &[u64], m: Match, used: &[u64], usable: &mut [u64]) -> Yen
+        requires { UsableAsked book.now self.now m used.now (length usable.old) }
+        ensures { UsableLots book.now self.now m used.now usable.new result.0 }
+    {
+        let issues = book[layout::ISSUES] as usize;
+        let at = layout::MOST_ISSUES * m.deliverer;
+        let end = at + issues;
+        run_usable::usable_row(
+            self.inside,
+            &self.stock.allocable[at..end],
+            &used[at..end],
+            self.stock.rates,
+            usable,
+        )
+    }
+
+    // A match, filled with what it may use: its lots go into a lent row of zeros.
+    pub fn fill_next(
+        &self,
+        book: &[u64],
+        m: Match,
+        usable: &[u64],
+        all: Yen,
+        order: &Order,
+        lots: &mut [u64],
+    ) -> Filling
+        requires { Fillable book.now self.now.stock m usable.now all.0 order.now.items lots.old }
+        ensures { FilledAs (filled_in book.now self.now.number m usable.now order.now.items) result lots.new }
+    {
+        let issues = book[layout::ISSUES] as usize;
+        let notices = layout::NOTICES + layout::MOST_ISSUES * m.deliverer;
+        let end = notices + issues;
+        let supply = Supply {
+            terms: &book[layout::TERMS..layout::RECEIPTS],
+            rates: self.stock.rates,
+            notified: &book[notices..end],
+            usable,
+            order: order.as_slice(),
+            all,
+        };
+        supply.fill_match(
+            book[layout::RUNS],
+            self.number as u64,
+            m.preferential,
+            m.amount,
+            lots,
+        )
+    }
+}
+
+// A match's lots, the forced ones with them, booked and listed; "forced lots never count as used".
+fn write_lots(
+    book: &mut [u64],
+    used: &mut [u64],
+    lists: &mut Lists,
+    m: Match,
+    f: Filling,
+    lots: &mut [u64],
+)
+    requires { LotsWritable book.old used.old lists.old m f lots.old }
+    ensures { LotsWritten book.old used.old lists.old m f lots.old book.new used.new lists.new }
+{
+    let forced = f.forced as usize;
+    let further = f.forced_lots;
+    lots[forced] = lots[forced] + further.0;
+    let at = layout::MOST_ISSUES * m.deliverer;
+    let end = at + lots.len();
+    issues::write_issues(book, &mut used[at..end], lists, m, &*lots);
+    let place = at + forced;
+    used[place] = used[place] - further.0;
+}
+
+// A match as it was filled: its lots are used, and it is listed and booked.
+pub fn write_next(
+    book: &mut [u64],
+    basket: usize,
+    m: Match,
+    f: Filling,
+    lots: &mut [u64],
+    used: &mut [u64],
+    lists: &mut Lists,
+)
+    requires { Writable book.old basket m f lots.old used.old lists.old }
+    ensures { Wrote book.old basket m f lots.old used.old lists.old book.new used.new lists.new }
+{
+    booking::move_yen(&mut *book, basket, m, f.covered);
+    write_lots(book, used, &mut *lists, m, f, lots);
+    lists.add_match(basket as u64, m, f);
+}

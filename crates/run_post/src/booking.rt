@@ -1,0 +1,45 @@
+// A filled match in the book: two positions, a pair of today, and two tallies of each issue.
+ghost use Rattle.run_post.specs.Booked.{Shiftable, Shifted, Bookable, BookableLots, YenMoved, IssueMoved};
+
+use matching::Match;
+use quantities::{Lots, Yen};
+
+// One signed cell less by an amount, another more by it.
+fn shift(book: &mut [u64], from: usize, to: usize, amount: u64)
+    requires { Shiftable book.old from to }
+    ensures { Shifted book.old book.new from to amount }
+{
+    book[from] = signed::less(book[from], amount);
+    book[to] = signed::more(book[to], amount);
+}
+
+// "The covered yen leave both positions". A pair is today's where it is "covered above 0 today".
+pub fn move_yen(book: &mut [u64], basket: usize, m: Match, covered: Yen)
+    requires { Bookable book.old basket m.deliverer m.receiver }
+    ensures { YenMoved book.old book.new basket m.deliverer m.receiver covered.0 }
+{
+    let positions = layout::POSITIONS + layout::MOST_PARTICIPANTS * basket;
+    shift(
+        &mut *book,
+        positions + m.deliverer,
+        positions + m.receiver,
+        covered.0,
+    );
+    if covered > Yen(0) {
+        let pair = layout::TODAY
+            + layout::SQUARE * basket
+            + layout::MOST_PARTICIPANTS * m.deliverer
+            + m.receiver;
+        book[pair] = 1;
+    }
+}
+
+// The tally: "lots delivered, forced ones included, less lots received". One issue's.
+pub fn move_lots(book: &mut [u64], m: Match, issue: usize, lots: Lots)
+    requires { BookableLots book.old m.deliverer m.receiver issue }
+    ensures { IssueMoved book.old book.new m.deliverer m.receiver issue lots.0 }
+{
+    let delivered = layout::TALLY + layout::MOST_ISSUES * m.deliverer + issue;
+    let received = layout::TALLY + layout::MOST_ISSUES * m.receiver + issue;
+    shift(book, received, delivered, lots.0);
+}

@@ -1,0 +1,98 @@
+// What may be used.
+#![tactic(auto)]
+
+ghost use Rattle.std.specs.Prelude.{◌≡◌, length};
+ghost use Rattle.lists.specs.Tables.{table};
+ghost use Rattle.lists.specs.Rows.{Becomes};
+ghost use Rattle.run_usable.specs.Stock.{allocable_in, inside_of, usable_of, Markable, Row, Rows, Allocable, Enough, Usable, Usables};
+
+use quantities::{Lots, Yen};
+use value::Rate;
+
+// What a run may allocate: each issue's rate, and every participant's allocable quantities in rows as far apart as the book's.
+#[derive(Clone, Copy)]
+pub struct Stock<'a> {
+    pub rates: &'a [u64],
+    pub allocable: &'a [u64],
+}
+
+// A participant's allocable quantities. By number, and the marks by their place in the book, as notices and receipts are read: a zip of the row
+// with all four would be tuples in tuples.
+fn allocable_row(book: &[u64], participant: usize, row: &mut [u64])
+    requires { Row book.now participant row.old }
+    ensures { Becomes (λ i c. c ≡ allocable_in book.now participant i) row.old row.new }
+{
+    let runs = book[layout::RUNS];
+    let notices = layout::NOTICES + layout::MOST_ISSUES * participant;
+    let receipts = layout::RECEIPTS + layout::MOST_ISSUES * participant;
+    for (i, cell) in row.iter_mut().enumerate() {
+        let terms = layout::TERMS + layout::TERM * i;
+        let lots = baskets::allocable(
+            runs,
+            book[terms + 4],
+            book[terms + 5],
+            Lots(book[notices + i]),
+            Lots(book[receipts + i]),
+        );
+        *cell = lots.0;
+    }
+}
+
+// Every participant's, in rows as far apart as the book's.
+pub fn allocable_rows(book: &[u64], cells: &mut [u64])
+    requires { Rows book.now cells.old }
+    ensures { Allocable book.now cells.new }
+{
+    let participants = book[layout::PARTICIPANTS] as usize;
+    let issues = book[layout::ISSUES] as usize;
+    for p in 0..participants {
+        let at = layout::MOST_ISSUES * p;
+        let end = at + issues;
+        allocable_row(book, p, &mut cells[at..end]);
+    }
+}
+
+// Whether each issue is of the basket. By number: of a row that a zip wrote the prover knows the length and no cell.
+pub fn mark_issues(book: &[u64], basket: u64, row: &mut [bool])
+    requires { Markable book.now (length row.old) }
+    ensures { row.new ≡ table (length row.old) (inside_of book.now basket) }
+{
+    let kinds = baskets::kinds_of(basket);
+    for (i, mark) in row.iter_mut().enumerate() {
+        *mark = baskets::is_among(&kinds, book[layout::TERMS + layout::TERM * i]);
+    }
+}
+
+// "Lots used earlier in the same run are gone .. Outside the basket nothing may be used".
+#[tactic(auto, unfolding(crate::specs::Stock::usable_of))]
+fn usable(inside: bool, allocable: Lots, used: Lots) -> Lots
+    requires { Enough inside allocable.0 used.0 }
+    ensures { result.0 ≡ usable_of inside allocable.0 used.0 }
+{
+    if inside {
+        Lots(allocable.0 - used.0)
+    } else {
+        Lots(0)
+    }
+}
+
+// What may be used of each issue, into a lent row, and what all of it is worth. By number: a zip of the five rows would be tuples in
+// tuples.
+pub fn usable_row(
+    inside: &[bool],
+    allocable: &[u64],
+    used: &[u64],
+    rates: &[u64],
+    row: &mut [u64],
+) -> Yen
+    requires { Usable inside.now allocable.now used.now rates.now (length row.old) }
+    ensures { Usables inside.now allocable.now used.now rates.now (length row.old) row.new result.0 }
+{
+    let mut all = Yen(0);
+    for (i, cell) in row.iter_mut().enumerate() {
+        let lots = usable(inside[i], Lots(allocable[i]), Lots(used[i]));
+        *cell = lots.0;
+        all = Rate(rates[i]).add_value(all, lots);
+    }
+    all
+}

@@ -1,5 +1,0 @@
-// A run on a sound book, basket by basket.
-#![tactic(auto)]
-
-mod basket;
-pub mod whole;

@@ -1,7 +1,0 @@
-use Rattle.std.proofs.Common.{arith}
-use Rattle.rows.proofs.RowLaws.{changed-more}
-use Rattle.stock.proofs.StockLaws.{allocable-cell}
-use Rattle.stock.proofs.allocable_row.Goals as goal
-
-pub loop-i-preserved : goal.loop-i-preserved
-loop-i-preserved c = changed-more _ _ (omega arith) (allocable-cell _ _ _ c.allocable-lots.ensures) c.loop-i.invariant

@@ -1,8 +1,0 @@
-use Rattle.std.proofs.Common.{arith, refl}
-use Rattle.stock.proofs.StockLaws.{allocable-more}
-use Rattle.stock.proofs.allocable_rows.Goals as goal
-
-pub loop-p-preserved : goal.loop-p-preserved
-loop-p-preserved c =
-    let s = c.requires in
-    allocable-more _ _ (omega (arith, s.participants, c.loop-p-test.true)) s.issues refl c.allocable_row.ensures c.loop-p.invariant
