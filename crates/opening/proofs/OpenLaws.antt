@@ -17,7 +17,7 @@ use Rattle.lists.specs.Parts.{grid, rows_at, written}
 use Rattle.lists.proofs.TableLaws.{length-zeros, get_or-table}
 use Rattle.lists.proofs.PartLaws.{part-back, length_over, Shape, grid-shape, table-agree, written-append}
 use Rattle.rule.specs.Isin.{codes_right}
-use Rattle.rule.specs.Sound.{sizes_fit, all_terms_fit, at_most, receipts_fit, marks_fit}
+use Rattle.rule.specs.Sound.{sizes_fit, all_terms_fit, at_most, receipts_fit, pairs_fit}
 use Rattle.rule.specs.Day.{terms_of, given_of, opened}
 use Rattle.rule.specs.Calls.{Reply, accepted, refused, open_checks}
 use Rattle.rule.specs.Layout.{book_length, codes_at, terms_at, receipts_at, pairs_at, cube_rows, stored, book_fits, open_of}
@@ -223,11 +223,11 @@ module _ (n m : ℕ) (codes terms receipts pairs b : List ℕ) where
       wrong-receipt e = search (answers, rules) depth 12
 
       module _ (r : at_most 1000000000000 n m (grid receipts 0 m n m) ≡ true) where
-        pub wrong-pair : marks_fit n (table 7 (λ k. grid pairs (n * n * k) n n n)) ≡ false → ◌≡◌ {A = Reply × List ℕ} (refused 4, b) (open_lengths n m codes terms receipts pairs b)
+        pub wrong-pair : pairs_fit n (table 7 (λ k. grid pairs (n * n * k) n n n)) ≡ false → ◌≡◌ {A = Reply × List ℕ} (refused 4, b) (open_lengths n m codes terms receipts pairs b)
         unfolding open_lengths open_checks given_of receipts_fit
         wrong-pair e = search (answers, rules) depth 12
 
-        pub all_right : Lengths n m codes terms receipts pairs → marks_fit n (table 7 (λ k. grid pairs (n * n * k) n n n)) ≡ true
+        pub all_right : Lengths n m codes terms receipts pairs → pairs_fit n (table 7 (λ k. grid pairs (n * n * k) n n n)) ≡ true
             → (x : List ℕ) → x ≡ open_written n m codes terms receipts pairs
             → ◌≡◌ {A = Reply × List ℕ} (accepted, x) (open_lengths n m codes terms receipts pairs b)
         unfolding open_lengths open_checks given_of receipts_fit

@@ -11,7 +11,7 @@ use Rattle.std.proofs.Math.Nat.{mul-div_cancel_left}
 use Rattle.std.proofs.lemmas.List.{drop-take, take-take, length-take-le}
 use Rattle.lists.proofs.PartLaws.{part-is, part_length, length-block, table-agree, block-get, grid-get}
 use Rattle.rule.specs.Day.{terms_of}
-use Rattle.rule.specs.Sound.{terms_fit, all_terms_fit, at_most, marks_fit}
+use Rattle.rule.specs.Sound.{terms_fit, all_terms_fit, at_most, pairs_fit}
 use Rattle.ranges.specs.Ranges.{Fronts, all_pass, row_passes, square_fits}
 use Rattle.ranges.proofs.ScanLaws.{all-and, all_split}
 use Rattle.ranges.proofs.CutLaws.{cut, cut-count, cut-get, cut-room, part-first, part-rest}
@@ -183,8 +183,8 @@ module _ (b : List ℕ) (s n : ℕ) (some : 0 < s) (size : length b ≡ s * n) (
 
 -- ---- pair marks
 
-marks-are : (b : List ℕ) (apart stride n : ℕ) → marks_fit n (table 7 (λ k. grid b (apart * k) stride n n)) ≡ all_below 7 (λ k. square_fits b (apart * k) stride n)
-unfolding marks_fit
+marks-are : (b : List ℕ) (apart stride n : ℕ) → pairs_fit n (table 7 (λ k. grid b (apart * k) stride n n)) ≡ all_below 7 (λ k. square_fits b (apart * k) stride n)
+unfolding pairs_fit
 marks-are b apart stride n =
     sym (all-and (λ k. at_most 1 n n (row t k)) (λ k. all_below n (λ p. eqb (cell (row t k) p p) 0)) 7)
     ∙ all-ext _ _ 7 (λ k l. ap (λ (r : List (List ℕ)). at_most 1 n n r && all_below n (λ p. eqb (cell r p p) 0)) (get_or-table 7 f k [] l)
@@ -215,7 +215,7 @@ square-lent b apart stride n k wide fit room l = record { wide = wide; room = om
 
 -- each a slice of its own
 pub marks-lent : (b : List ℕ) (apart stride n : ℕ) → n ≤ stride → stride * n ≤ apart
-    → all_below 7 (λ k. square_fits (take (apart * k + apart - apart * k) (drop (apart * k) b)) 0 stride n) ≡ marks_fit n (table 7 (λ k. grid b (apart * k) stride n n))
+    → all_below 7 (λ k. square_fits (take (apart * k + apart - apart * k) (drop (apart * k) b)) 0 stride n) ≡ pairs_fit n (table 7 (λ k. grid b (apart * k) stride n n))
 marks-lent b apart stride n wide fit =
     all-ext _ _ 7 (λ k l. ap (λ (x : List ℕ). square_fits x 0 stride n) (part-is b (apart * k) apart) ∙ square-there b (apart * k) apart stride n wide fit)
     ∙ sym (marks-are b apart stride n)

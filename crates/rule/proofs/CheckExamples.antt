@@ -6,7 +6,7 @@ use mathlib.Core.List.{List, [], ◌∷◌, ◌++◌, map}
 use Rattle.lists.specs.Tests.{first}
 use Rattle.lists.specs.Tables.{zeros, table}
 use Rattle.lists.specs.Folds.{joined}
-use Rattle.rule.specs.Day.{Day, with_trades}
+use Rattle.rule.specs.Day.{Day}
 use Rattle.rule.specs.Calls.{Reply, accepted, counts, refused, open_checks, run_checks, close_checks}
 use Rattle.rule.specs.Layout.{book_length, open_of}
 use Rattle.rule.specs.WorkedDays.{wrong_code}
@@ -103,7 +103,7 @@ traded seller buyer k yen = (trade_day fresh seller buyer k yen).0
 
 -- the same with this many trades accepted already
 abbrev counted : ℕ → Day
-counted n = record { given = fresh.given; state = with_trades fresh.state n }
+counted n = record fresh { state = record fresh.state { trades = n } }
 
 -- positions in basket C
 abbrev positions : List ℕ → List ℕ → ℕ → Day

@@ -4,10 +4,11 @@ use Prim.Native.Nat.{ℕ}
 use mathlib.Core.Bool.{true, false}
 use mathlib.Core.List.{List, [], ◌∷◌, ◌++◌, map}
 use Rattle.lists.specs.Tables.{zeros}
-use Rattle.rule.specs.Value.{Terms}
+use Rattle.rule.specs.Allocable.{Marks}
 use Rattle.rule.specs.Day.{Day}
 use Rattle.rule.specs.Calls.{Reply, accepted, counts, refused}
-use Rattle.rule.specs.Claims.{MatchEntry, LineEntry, match_of, line_of, matches_of, lines_of, lots_in, lots_by, forced_by, quantity, used_before, usable_in, Call, trade, notice, run, close, Event, is_accepted, sold_in, bought_in, delivered_in, received_in, is_run, runs_in, named, notified_after, notified, allocable_then}
+use Rattle.rule.specs.Entries.{MatchEntry, LineEntry, match_of, line_of}
+use Rattle.rule.specs.Claims.{matches_of, lines_of, lots_in, lots_by, forced_by, quantity, used_before, usable_in, Call, trade, notice, run, close, Event, is_accepted, sold_in, bought_in, delivered_in, received_in, is_run, runs_in, named, notified_after, notified, allocable_then}
 use Rattle.rule.proofs.DayCalls.{notice_day}
 use Rattle.rule.proofs.ExampleDays.{issue, open_issues}
 use Rattle.rule.proofs.WholeRule.{whole_rule}
@@ -49,8 +50,8 @@ sold r = event (trade 0 1 2 70) r
 unfoldable day : Day
 day = open_issues 3 (issue 2 0 1 ∷ issue 2 0 0 ∷ []) (9 ∷ 3 ∷ zeros 4)
 
-abbrev marked : ℕ → ℕ → Terms
-marked redeemed interest = record { kind = 2; price = 10000; coupon = 0; days = 0; redeemed = redeemed; interest = interest }
+abbrev marked : ℕ → ℕ → Marks
+marked redeemed interest = record { redeemed = redeemed; interest = interest }
 
 record Claimed : Type 0 where
   -- "the entries within the counts that accepted calls returned"

@@ -20,8 +20,7 @@ use Rattle.lists.proofs.TestLaws.{pick_no, all-at}
 use Rattle.lists.proofs.FoldLaws.{foldl-up_to, total-append}
 use Rattle.lists.proofs.AppendLaws.{up_to-more}
 use Rattle.lists.proofs.TableLaws.{get_or-zeros, length-zeros}
-use Rattle.rule.specs.Value.{Terms}
-use Rattle.rule.specs.Allocable.{unmarked, allocable}
+use Rattle.rule.specs.Allocable.{unmarked, allocable, Marks}
 use Rattle.rule.specs.Filling.{shortage, covered}
 use Rattle.rule.specs.Day.{notice_row}
 use Rattle.rule.specs.Calls.{distinct}
@@ -44,11 +43,11 @@ either-mark a b n = go (ℕ_discrete a 0) (ℕ_discrete b 0)
     go (yes e) (no f) = rw (lt-ltb 0 (a + b) (omega arith), eq-eqb a 0 e, ne_eqb b 0 f)
     go (no e) f = rw (lt-ltb 0 (a + b) (omega arith), ne_eqb a 0 e)
 
-pub quantity-is : (runs : ℕ) (t : Terms) (notified scheduled : ℕ) → quantity runs t notified scheduled ≡ allocable runs t notified scheduled
+pub quantity-is : (runs : ℕ) (m : Marks) (notified scheduled : ℕ) → quantity runs m notified scheduled ≡ allocable runs m notified scheduled
 unfolding quantity allocable unmarked
-quantity-is zero t notified scheduled = one-mark t.redeemed (min notified scheduled)
-quantity-is (suc runs) t notified scheduled =
-    pick_no (eqb (suc runs) 0) _ _ (ne_eqb (suc runs) 0 (λ e. omega arith)) ∙ either-mark t.redeemed t.interest notified
+quantity-is zero m notified scheduled = one-mark m.redeemed (min notified scheduled)
+quantity-is (suc runs) m notified scheduled =
+    pick_no (eqb (suc runs) 0) _ _ (ne_eqb (suc runs) 0 (λ e. omega arith)) ∙ either-mark m.redeemed m.interest notified
 
 -- ---- the shortage
 

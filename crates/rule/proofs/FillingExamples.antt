@@ -6,12 +6,13 @@ use mathlib.Core.Bool.{true, false}
 use mathlib.Core.List.{List, [], ◌∷◌, map}
 use lib.ListN.{length}
 use Rattle.lists.specs.Tables.{zeros}
+use Rattle.rule.specs.Allocable.{Marks, no_marks}
 use Rattle.rule.specs.Value.{Terms, value}
 use Rattle.rule.specs.Filling.{worth, fill_drawn, fill_preferential, filled, covered, forced_issue}
 use Rattle.rule.proofs.NumberRule.{number_rule}
 
 abbrev of_kind : ℕ → Terms
-of_kind k = record { kind = k; price = 10000; coupon = 0; days = 0; redeemed = 0; interest = 0 }
+of_kind k = record { kind = k; price = 10000; coupon = 0; days = 0 }
 
 -- ---- two issues at 50,000 yen a lot, so that a unit of 100,000 lots is worth 5,000,000,000 yen
 
@@ -23,7 +24,7 @@ drawn_lots a b yen = (fill_drawn pair (a ∷ b ∷ []) (0 ∷ 1 ∷ []) yen).lot
 
 -- at a price; at 30,000 and at 50,500 yen a lot; and with a coupon of 100 thousandths of a percent and a day of interest
 abbrev priced : ℕ → Terms
-priced p = record { kind = 2; price = p; coupon = 0; days = 0; redeemed = 0; interest = 0 }
+priced p = record { kind = 2; price = p; coupon = 0; days = 0 }
 
 abbrev cheap : Terms
 cheap = priced 6000
@@ -32,7 +33,7 @@ abbrev dear : Terms
 dear = priced 10100
 
 abbrev accruing : ℕ → Terms
-accruing p = record { kind = 2; price = p; coupon = 100; days = 1; redeemed = 0; interest = 0 }
+accruing p = record { kind = 2; price = p; coupon = 100; days = 1 }
 
 record Fillings : Type 0 where
   -- the first pass takes whole units from both issues, where a walk would take all of issue 0
@@ -76,10 +77,10 @@ record Fillings : Type 0 where
   -- 4 usable lots and 4 forced ones are worth 400,001 yen, interest 1; in two parts it would be 0
   forced_rounding : (filled 2 false (accruing 10000 ∷ []) (4 ∷ []) (0 ∷ []) 0 400001).forced_lots ≡ 4
   -- "n × coupon × days ÷ 730 rounded down once": 365 × 2 ÷ 730 is a yen, and so is 365 × 3 ÷ 730
-  interest : map (λ d. value (record { kind = 2; price = 10000; coupon = 365; days = d; redeemed = 0; interest = 0 }) 1) (1 ∷ 2 ∷ 3 ∷ 4 ∷ [])
+  interest : map (λ d. value (record { kind = 2; price = 10000; coupon = 365; days = d }) 1) (1 ∷ 2 ∷ 3 ∷ 4 ∷ [])
       ≡ 50000 ∷ 50001 ∷ 50001 ∷ 50002 ∷ []
   -- "Kind 6 is valued on face too", and a bill's coupon counts as any
-  kinds_alike : map (λ k. value (record { kind = k; price = 10000; coupon = 100; days = 1; redeemed = 0; interest = 0 }) 8) (0 ∷ 1 ∷ 2 ∷ 3 ∷ 4 ∷ 5 ∷ 6 ∷ [])
+  kinds_alike : map (λ k. value (record { kind = k; price = 10000; coupon = 100; days = 1 }) 8) (0 ∷ 1 ∷ 2 ∷ 3 ∷ 4 ∷ 5 ∷ 6 ∷ [])
       ≡ 400001 ∷ 400001 ∷ 400001 ∷ 400001 ∷ 400001 ∷ 400001 ∷ 400001 ∷ []
   -- in runs 1 and 2 nothing is forced
   carried : map (λ r. (filled r false pair (2 ∷ 0 ∷ []) (0 ∷ 1 ∷ []) 0 120000).forced_lots) (0 ∷ 1 ∷ []) ≡ 0 ∷ 0 ∷ []
@@ -116,29 +117,37 @@ fillings = record {
 
 -- ---- the forced issue
 
-abbrev paying : ℕ → Terms
-paying k = record { kind = k; price = 10000; coupon = 0; days = 0; redeemed = 0; interest = 1 }
+-- an issue of this kind, unmarked or paying interest on the following day
+abbrev plain : ℕ → Terms × Marks
+plain k = (of_kind k, no_marks)
 
--- in basket C, of issues of these kinds, with nothing notified
-abbrev unnotified : List Terms → ℕ
-unnotified ts = forced_issue 2 ts (zeros (length ts))
+abbrev paying : ℕ → Terms × Marks
+paying k = (of_kind k, record { redeemed = 0; interest = 1 })
+
+-- in basket C, of these issues and notified lots
+abbrev chosen : List (Terms × Marks) → List ℕ → ℕ
+chosen issues notified = forced_issue 2 (map (λ i. i.0) issues) (map (λ i. i.1) issues) notified
+
+-- with nothing notified
+abbrev unnotified : List (Terms × Marks) → ℕ
+unnotified issues = chosen issues (zeros (length issues))
 
 record Forced : Type 0 where
   -- "the deliverer's most notified lots", ties: smaller ISIN; marked issues and those of other baskets do not count
-  most : forced_issue 2 (paying 1 ∷ of_kind 4 ∷ of_kind 1 ∷ of_kind 2 ∷ of_kind 3 ∷ []) (9 ∷ 9 ∷ 5 ∷ 7 ∷ 7 ∷ []) ≡ 3
+  most : chosen (paying 1 ∷ plain 4 ∷ plain 1 ∷ plain 2 ∷ plain 3 ∷ []) (9 ∷ 9 ∷ 5 ∷ 7 ∷ 7 ∷ []) ≡ 3
   -- of any kind
-  most_of_kind_one : forced_issue 2 (of_kind 1 ∷ of_kind 2 ∷ []) (5 ∷ 3 ∷ []) ≡ 0
+  most_plain_one : chosen (plain 1 ∷ plain 2 ∷ []) (5 ∷ 3 ∷ []) ≡ 0
   -- one lot is above 0
-  most_of_one : forced_issue 2 (of_kind 1 ∷ of_kind 2 ∷ []) (1 ∷ 0 ∷ []) ≡ 0
+  most_of_one : chosen (plain 1 ∷ plain 2 ∷ []) (1 ∷ 0 ∷ []) ≡ 0
   -- "With none above 0": lots of issues that do not count are as none
-  none_counts : forced_issue 2 (of_kind 1 ∷ of_kind 2 ∷ paying 2 ∷ of_kind 4 ∷ []) (0 ∷ 0 ∷ 9 ∷ 9 ∷ []) ≡ 1
+  none_counts : chosen (plain 1 ∷ plain 2 ∷ paying 2 ∷ plain 4 ∷ []) (0 ∷ 0 ∷ 9 ∷ 9 ∷ []) ≡ 1
   -- "the fifth largest ISIN among unmarked kind 2 issues": of six, of five, of four
-  six : unnotified (of_kind 2 ∷ of_kind 2 ∷ of_kind 2 ∷ of_kind 2 ∷ of_kind 2 ∷ of_kind 2 ∷ []) ≡ 1
-  five : unnotified (of_kind 0 ∷ of_kind 2 ∷ of_kind 2 ∷ of_kind 2 ∷ of_kind 2 ∷ of_kind 2 ∷ []) ≡ 1
-  four : unnotified (of_kind 0 ∷ paying 2 ∷ of_kind 2 ∷ of_kind 2 ∷ of_kind 2 ∷ of_kind 2 ∷ []) ≡ 2
+  six : unnotified (plain 2 ∷ plain 2 ∷ plain 2 ∷ plain 2 ∷ plain 2 ∷ plain 2 ∷ []) ≡ 1
+  five : unnotified (plain 0 ∷ plain 2 ∷ plain 2 ∷ plain 2 ∷ plain 2 ∷ plain 2 ∷ []) ≡ 1
+  four : unnotified (plain 0 ∷ paying 2 ∷ plain 2 ∷ plain 2 ∷ plain 2 ∷ plain 2 ∷ []) ≡ 2
   -- "With no unmarked kind 2 issue there it is the fifth largest among all unmarked ones"
-  other : unnotified (of_kind 0 ∷ of_kind 1 ∷ of_kind 3 ∷ paying 2 ∷ of_kind 0 ∷ of_kind 1 ∷ of_kind 3 ∷ []) ≡ 1
+  other : unnotified (plain 0 ∷ plain 1 ∷ plain 3 ∷ paying 2 ∷ plain 0 ∷ plain 1 ∷ plain 3 ∷ []) ≡ 1
 
 forced : Forced
 unfolding number_rule
-forced = record { most = refl; most_of_kind_one = refl; most_of_one = refl; none_counts = refl; six = refl; five = refl; four = refl; other = refl }
+forced = record { most = refl; most_plain_one = refl; most_of_one = refl; none_counts = refl; six = refl; five = refl; four = refl; other = refl }

@@ -15,7 +15,7 @@ use Rattle.lists.specs.Parts.{grid, block, over}
 use Rattle.lists.proofs.TableLaws.{length-table, get_or-table, get_d_map}
 use Rattle.lists.proofs.PartLaws.{Shape, over-same, stands-grid}
 use Rattle.rule.specs.Day.{Given, baskets, given_of, opened}
-use Rattle.rule.specs.Sound.{receipts_fit, marks_fit, tally_limit}
+use Rattle.rule.specs.Sound.{receipts_fit, pairs_fit, tally_limit}
 use Rattle.rule.specs.Calls.{Reply, accepted, answer, open_checks, refusal, close_checks, tomorrow_receipts, tomorrow_pairs}
 use Rattle.rule.specs.Layout.{book_length, view, stored, book_fits, sound_book, open_of, close_of}
 use Rattle.rule.proofs.SoundLaws.{of-most}
@@ -158,7 +158,7 @@ module _ (b : List ℕ) (s : SoundBook b) (sound : sound_book b ≡ true) (three
     codes_right = h.codes_right;
     terms_fit = h.terms_fit;
     receipts_fit = ap (receipts_fit n m) (grid-table (view b).state.delivered n m shape.delivered) ∙ receipts-right;
-    pairs_fit = ap (marks_fit n) (cube-table (view b).state.today n shape.today_baskets shape.today) ∙ s.day.today;
+    pairs_fit = ap (pairs_fit n) (cube-table (view b).state.today n shape.today_baskets shape.today) ∙ s.day.today;
   }
     where
       flat-today : List (List ℕ)

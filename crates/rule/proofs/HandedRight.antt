@@ -16,12 +16,14 @@ use Rattle.lists.proofs.TestLaws.{pick_yes, pick_no, stop, and_no}
 use Rattle.lists.proofs.FoldLaws.{total-zero, every_map}
 use Rattle.lists.proofs.TableLaws.{get_or-table}
 use Rattle.lists.proofs.PartLaws.{table-agree}
+use Rattle.rule.specs.Allocable.{no_marks}
 use Rattle.rule.specs.Value.{Terms, no_terms}
 use Rattle.rule.specs.Baskets.{within}
 use Rattle.rule.specs.Filling.{Filled, worth, all_lots, match_lots}
 use Rattle.rule.specs.Day.{Day}
 use Rattle.rule.specs.Run.{Allocation, used, allocable_of, allocations, line_list}
-use Rattle.rule.specs.Claims.{MatchEntry, LineEntry, line_of, no_match_entry, no_line_entry, lots_in, used_before, usable_in, MatchHolds, RunHolds}
+use Rattle.rule.specs.Entries.{MatchEntry, LineEntry, line_of}
+use Rattle.rule.specs.Claims.{no_match_entry, no_line_entry, lots_in, used_before, usable_in, MatchHolds, RunHolds}
 use Rattle.lists.proofs.FoldLaws.{every-at}
 use Rattle.rule.proofs.SumLaws.{total-map, total-same}
 use Rattle.rule.proofs.FilledLaws.{covered-all, Fewest}
@@ -132,7 +134,7 @@ module _ (y : Day) (draw : List ℕ) (h : Runnable y draw) where
       rw (match-at j)
       (table-agree y.given.issues _ (λ i. pick (within (at j).basket (get_or y.given.terms i no_terms)) (allocable_of y (at j).match.deliverer i - used (take j done) (at j).match.deliverer i) 0)
       (λ i k. ap₂ (λ (q x : ℕ). pick (within (at j).basket (get_or y.given.terms i no_terms)) (q - x) 0)
-      (quantity-is y.state.runs (get_or y.given.terms i no_terms) _ _)
+      (quantity-is y.state.runs (get_or y.given.marks i no_marks) _ _)
       (used-before done j (at j).match.deliverer i (omega arith) (all-issues y draw h i k))))
 
   match-right : (j : ℕ) (a : Allocation) → j < length done

@@ -11,8 +11,7 @@ use Rattle.lists.specs.Tests.{pick}
 use Rattle.lists.specs.Tables.{table, cell}
 use Rattle.lists.specs.Folds.{foldl, total, sum}
 use Rattle.lists.proofs.FoldLaws.{foldl-append, total-append}
-use Rattle.rule.specs.Value.{no_terms}
-use Rattle.rule.specs.Allocable.{allocable}
+use Rattle.rule.specs.Allocable.{allocable, no_marks}
 use Rattle.rule.specs.Day.{Given, Day, given_of, opened, traded, noticed}
 use Rattle.rule.specs.Run.{allocable_of, allocations, line_list}
 use Rattle.rule.specs.Calls.{Reply, accepted, counts, refused, run_reply}
@@ -61,8 +60,8 @@ module _ (h : History) (e : Event) (b : List ℕ) (s : Step h.book e b) where
   allocable-is : Kept y.given h → (d i : ℕ) → d < y.given.participants → i < y.given.issues → allocable_of y d i ≡ allocable_then y.given h.events d i
   unfolding allocable_of allocable_then
   allocable-is k d i l m =
-      ap₂ (λ (r x : ℕ). allocable r (get_or y.given.terms i no_terms) x (cell y.given.receipts d i)) k.runs (k.notices d i l m)
-      ∙ sym (quantity-is (runs_in h.events) (get_or y.given.terms i no_terms) _ _)
+      ap₂ (λ (r x : ℕ). allocable r (get_or y.given.marks i no_marks) x (cell y.given.receipts d i)) k.runs (k.notices d i l m)
+      ∙ sym (quantity-is (runs_in h.events) (get_or y.given.marks i no_marks) _ _)
 
   -- with the day's own data
   kept-own : Kept y.given h → Kept y.given (more h e b)

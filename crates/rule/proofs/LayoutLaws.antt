@@ -19,8 +19,9 @@ use Rattle.lists.proofs.FoldLaws.{every-join, every-parts, every-joined, joined_
 use Rattle.lists.proofs.TableLaws.{length-table, get_or-table, get_d_map}
 use Rattle.lists.proofs.PartLaws.{Inside, Outside, Reads, Rising, length-written, written_is, written_out, written-reads, Chain, rising-chain, rising-joined, Shape, Stands, stands-reads, reads-stands, rows_inside, rows-rise, rows-at, stands-agree, stands-grid, grid-shape, grid-stands}
 use Rattle.rule.specs.Value.{Terms, no_terms}
-use Rattle.rule.specs.Day.{Given, Day, baskets, terms_of}
-use Rattle.rule.specs.Layout.{codes_at, terms_at, receipts_at, pairs_at, positions_at, notices_at, today_at, tally_at, book_length, plus, minus, signed, signed_rows, cube, view, terms_row, cube_rows, given_tables, tables_of, stored}
+use Rattle.rule.specs.Allocable.{Marks, no_marks}
+use Rattle.rule.specs.Day.{Given, Day, baskets, terms_of, marks_of}
+use Rattle.rule.specs.Layout.{codes_at, terms_at, receipts_at, pairs_at, positions_at, notices_at, today_at, tally_at, book_length, plus, minus, signed, signed_rows, cube, view, terms_row, terms_rows, cube_rows, given_tables, tables_of, stored}
 
 -- ---- a signed number and its cell
 
@@ -92,6 +93,7 @@ pub record Shaped (y : Day) : Type 0 where
   pub most : y.given.issues ≤ 32
   pub codes : Shape y.given.codes y.given.issues 12
   pub terms : length y.given.terms ≡ y.given.issues
+  pub marks : length y.given.marks ≡ y.given.issues
   pub receipts : Shape y.given.receipts y.given.participants y.given.issues
   pub pairs : (k : ℕ) → k < 7 → Shape (row y.given.pairs k) y.given.participants y.given.participants
   pub baskets : length y.given.pairs ≡ 7
@@ -106,7 +108,7 @@ pub record Shaped (y : Day) : Type 0 where
 -- the book has the tables that opening brought
 pub record HoldsGiven (b : List ℕ) (g : Given) : Type 0 where
   pub codes : Stands b codes_at 12 g.issues 12 g.codes
-  pub terms : Stands b terms_at 6 g.issues 6 (map terms_row g.terms)
+  pub terms : Stands b terms_at 6 g.issues 6 (terms_rows g)
   pub receipts : Stands b receipts_at 32 g.participants g.issues g.receipts
   pub pairs : (k : ℕ) → k < 7 → Stands b (pairs_at + 144 * k) 12 g.participants g.participants (row g.pairs k)
 
@@ -135,8 +137,14 @@ signed-cell out back n m p i s l k =
     rw (get_or-table (length out) (λ p. table (length (row out p)) (λ i. signed (cell out p i) (cell back p i))) p [] (omega (arith, s.rows)))
     (get_or-table (length (row out p)) (λ i. signed (cell out p i) (cell back p i)) i 0 (omega (arith, s.cells p l)))
 
-terms-shape : (ts : List Terms) (m : ℕ) → length ts ≡ m → Shape (map terms_row ts) m 6
-terms-shape ts m e = record { rows = length-map ts terms_row ∙ e; cells = λ p l. rw (get_d_map terms_row ts p no_terms [] (omega arith)) refl }
+pub terms-at : (g : Given) (i : ℕ) → i < g.issues → row (terms_rows g) i ≡ terms_row (get_or g.terms i no_terms) (get_or g.marks i no_marks)
+terms-at g i l = get_or-table g.issues (λ i. terms_row (get_or g.terms i no_terms) (get_or g.marks i no_marks)) i [] l
+
+pub terms-length : (g : Given) → length (terms_rows g) ≡ g.issues
+terms-length g = length-table g.issues _
+
+terms-shape : (g : Given) → Shape (terms_rows g) g.issues 6
+terms-shape g = record { rows = terms-length g; cells = λ p l. rw (terms-at g p l) refl }
 
 -- f on every cell of a table
 pub map-shape : (f : ℕ → ℕ) (t : List (List ℕ)) (n m : ℕ) → Shape t n m → Shape (map (map f) t) n m
@@ -163,9 +171,17 @@ parts-of f out back t n m s r h =
     same-cells (map (map f) (signed_rows out back)) t n m (map-shape f (signed_rows out back) n m u) r (λ p i l k.
     map-cell f (signed_rows out back) n m p i u l k ∙ ap f (signed-cell out back n m p i s l k) ∙ h p i l k)
 
-terms-back : (ts : List Terms) → map terms_of (map terms_row ts) ≡ ts
-terms-back [] = refl
-terms-back (t ∷ ts) = ap (λ (l : List Terms). t ∷ l) (terms-back ts)
+terms-back : (g : Given) → length g.terms ≡ g.issues → map terms_of (terms_rows g) ≡ g.terms
+terms-back g e =
+    ext_get_or no_terms (map terms_of (terms_rows g)) g.terms (length-map (terms_rows g) terms_of ∙ terms-length g ∙ sym e) (λ p l.
+    let k : p < g.issues = omega (arith, length-map (terms_rows g) terms_of, terms-length g) in
+    get_d_map terms_of (terms_rows g) p [] no_terms (omega (arith, terms-length g)) ∙ ap terms_of (terms-at g p k))
+
+marks-back : (g : Given) → length g.marks ≡ g.issues → map marks_of (terms_rows g) ≡ g.marks
+marks-back g e =
+    ext_get_or no_marks (map marks_of (terms_rows g)) g.marks (length-map (terms_rows g) marks_of ∙ terms-length g ∙ sym e) (λ p l.
+    let k : p < g.issues = omega (arith, length-map (terms_rows g) marks_of, terms-length g) in
+    get_d_map marks_of (terms_rows g) p [] no_marks (omega (arith, terms-length g)) ∙ ap marks_of (terms-at g p k))
 
 -- the first four cells
 four : (b : List ℕ) → 4 ≤ length b → block b 0 4 ≡ get_or b 0 0 ∷ get_or b 1 0 ∷ get_or b 2 0 ∷ get_or b 3 0 ∷ []
@@ -185,7 +201,7 @@ module _ (y : Day) (s : Shaped y) where
   m = y.given.issues
 
   abbrev term_rows : List (List ℕ)
-  term_rows = map terms_row y.given.terms
+  term_rows = terms_rows y.given
 
   abbrev position_rows : List (List ℕ)
   position_rows = signed_rows y.state.owed y.state.due
@@ -194,7 +210,7 @@ module _ (y : Day) (s : Shaped y) where
   tally_rows = signed_rows y.state.delivered y.state.received
 
   term-shape : Shape term_rows m 6
-  term-shape = terms-shape y.given.terms m s.terms
+  term-shape = terms-shape y.given
 
   position-shape : Shape position_rows 7 n
   position-shape = signed-shape y.state.owed y.state.due 7 n s.owed
@@ -460,6 +476,9 @@ module _ (y : Day) (s : Shaped y) where
     tally-grid : grid b tally_at 32 n m ≡ tally_rows
     tally-grid = stands-grid b tally_at 32 n m tally_rows tally-shape s.most (omega (arith, s.few)) h.tally
 
+    term-grid : grid b terms_at 6 m 6 ≡ term_rows
+    term-grid = stands-grid b terms_at 6 m 6 term_rows term-shape (omega arith) (omega (arith, s.most)) h.given.terms
+
     pub holds-view : view b ≡ y
     unfolding view
     holds-view =
@@ -469,7 +488,9 @@ module _ (y : Day) (s : Shaped y) where
         ap (λ (j : ℕ). grid b codes_at 12 j 12) em ∙ stands-grid b codes_at 12 m 12 y.given.codes s.codes (omega arith) (omega (arith, s.most)) h.given.codes in
         let terms : map terms_of (grid b terms_at 6 (get_or b 1 0) 6) ≡ y.given.terms =
         ap (λ (j : ℕ). map terms_of (grid b terms_at 6 j 6)) em
-        ∙ ap (map terms_of) (stands-grid b terms_at 6 m 6 term_rows term-shape (omega arith) (omega (arith, s.most)) h.given.terms) ∙ terms-back y.given.terms in
+        ∙ ap (map terms_of) term-grid ∙ terms-back y.given s.terms in
+        let marks : map marks_of (grid b terms_at 6 (get_or b 1 0) 6) ≡ y.given.marks =
+        ap (λ (j : ℕ). map marks_of (grid b terms_at 6 j 6)) em ∙ ap (map marks_of) term-grid ∙ marks-back y.given s.marks in
         let receipts : grid b receipts_at 32 (get_or b 0 0) (get_or b 1 0) ≡ y.given.receipts =
         ap₂ (grid b receipts_at 32) en em ∙ stands-grid b receipts_at 32 n m y.given.receipts s.receipts s.most (omega (arith, s.few)) h.given.receipts in
         let pairs : cube b pairs_at (get_or b 0 0) ≡ y.given.pairs =
@@ -491,7 +512,7 @@ module _ (y : Day) (s : Shaped y) where
         let received : map (map minus) (grid b tally_at 32 (get_or b 0 0) (get_or b 1 0)) ≡ y.state.received =
         tally minus ∙ parts-of minus y.state.delivered y.state.received y.state.received n m s.delivered s.received (λ p i l j. minus-signed (g.tally p i l j)) in
         λ i. record {
-          given = record { participants = en i; issues = em i; codes = codes i; terms = terms i; receipts = receipts i; pairs = pairs i };
+          given = record { participants = en i; issues = em i; codes = codes i; terms = terms i; marks = marks i; receipts = receipts i; pairs = pairs i };
           state = record {
             runs = h.runs i;
             trades = h.trades i;
@@ -510,7 +531,7 @@ view-stored y s g b size = holds-view y s (stored b y) (length-stored y s b size
 
 -- ---- what a book is viewed as, it has
 
-terms-cell : (l : List ℕ) (i : ℕ) → i < 6 → get_or (terms_row (terms_of l)) i 0 ≡ get_or l i 0
+terms-cell : (l : List ℕ) (i : ℕ) → i < 6 → get_or (terms_row (terms_of l) (marks_of l)) i 0 ≡ get_or l i 0
 terms-cell l zero h = refl
 terms-cell l (suc zero) h = refl
 terms-cell l (suc (suc zero)) h = refl
@@ -519,15 +540,19 @@ terms-cell l (suc (suc (suc (suc zero)))) h = refl
 terms-cell l (suc (suc (suc (suc (suc zero))))) h = refl
 terms-cell l (suc (suc (suc (suc (suc (suc i)))))) h = absurd (omega arith)
 
--- rows of six cells, read as terms and written again
-pub terms-rows : (t : List (List ℕ)) (m : ℕ) → Shape t m 6 → map terms_row (map terms_of t) ≡ t
-terms-rows t m s =
-    ext_get_or [] (map terms_row (map terms_of t)) t (length-map (map terms_of t) terms_row ∙ length-map t terms_of)
-    (λ p l.
-    let k : p < length t = omega (arith, length-map (map terms_of t) terms_row, length-map t terms_of) in
-    get_d_map terms_row (map terms_of t) p no_terms [] (omega (arith, length-map t terms_of))
-    ∙ ap terms_row (get_d_map terms_of t p [] no_terms k)
-    ∙ ext_get_or 0 (terms_row (terms_of (row t p))) (row t p) (sym (s.cells p (omega (arith, s.rows)))) (terms-cell (row t p)))
+-- rows of six cells, read as terms and marks and written again
+row-again : (t : List (List ℕ)) (i : ℕ) → i < length t
+    → terms_row (get_or (map terms_of t) i no_terms) (get_or (map marks_of t) i no_marks) ≡ terms_row (terms_of (row t i)) (marks_of (row t i))
+row-again t i l = ap₂ terms_row (get_d_map terms_of t i [] no_terms l) (get_d_map marks_of t i [] no_marks l)
+
+pub terms-rows : (g : Given) (t : List (List ℕ)) → g.terms ≡ map terms_of t → g.marks ≡ map marks_of t → Shape t g.issues 6 → terms_rows g ≡ t
+terms-rows g t e q s =
+    ext_get_or [] (terms_rows g) t (terms-length g ∙ sym s.rows) (λ p l.
+    let k : p < g.issues = omega (arith, terms-length g) in
+    terms-at g p k
+    ∙ ap₂ (λ (ts : List Terms) (ms : List Marks). terms_row (get_or ts p no_terms) (get_or ms p no_marks)) e q
+    ∙ row-again t p (omega (arith, s.rows))
+    ∙ ext_get_or 0 (terms_row (terms_of (row t p)) (marks_of (row t p))) (row t p) (sym (s.cells p k)) (terms-cell (row t p)))
 
 -- the cells of a signed table, split and joined again
 split-stands : (b : List ℕ) (at stride n m : ℕ) → ((j : ℕ) → get_or b j 0 < whole) → Shape (grid b at stride n m) n m
@@ -572,6 +597,7 @@ module _ (b : List ℕ) (r : Readable b) where
     most = r.most;
     codes = grid-shape b codes_at 12 (get_or b 1 0) 12 (omega arith) (omega (arith, r.size, r.most));
     terms = length-map (grid b terms_at 6 (get_or b 1 0) 6) terms_of ∙ length-table (get_or b 1 0) _;
+    marks = length-map (grid b terms_at 6 (get_or b 1 0) 6) marks_of ∙ length-table (get_or b 1 0) _;
     receipts = grid-shape b receipts_at 32 (get_or b 0 0) (get_or b 1 0) r.most (omega (arith, r.size, r.few));
     pairs = cube-read pairs_at (omega arith);
     baskets = length-table 7 (λ k. grid b (pairs_at + 144 * k) 12 (get_or b 0 0) (get_or b 0 0));
@@ -594,13 +620,14 @@ module _ (b : List ℕ) (r : Readable b) where
   cube-holds : (at k : ℕ) → k < 7 → Stands b (at + 144 * k) 12 (get_or b 0 0) (get_or b 0 0) (row (cube b at (get_or b 0 0)) k)
   cube-holds at k l = rw (cube-row at k l) (grid-stands b (at + 144 * k) 12 (get_or b 0 0) (get_or b 0 0))
 
-  terms-holds : Stands b terms_at 6 (get_or b 1 0) 6 (map terms_row (map terms_of (grid b terms_at 6 (get_or b 1 0) 6)))
-  terms-holds p i l k =
+  term-read : Shape (grid b terms_at 6 (get_or b 1 0) 6) (get_or b 1 0) 6
+  term-read = grid-shape b terms_at 6 (get_or b 1 0) 6 (omega arith) (omega (arith, r.size, r.most))
+
+  terms-holds : Stands b terms_at 6 (get_or b 1 0) 6 (terms_rows (view b).given)
+  unfolding view
+  terms-holds =
       let g : List (List ℕ) = grid b terms_at 6 (get_or b 1 0) 6 in
-      let e : length g ≡ get_or b 1 0 = length-table (get_or b 1 0) _ in
-      sym (ap (λ (l : List ℕ). get_or l i 0) (get_d_map terms_row (map terms_of g) p no_terms [] (omega (arith, length-map g terms_of)))
-      ∙ ap (λ (t : Terms). get_or (terms_row t) i 0) (get_d_map terms_of g p [] no_terms (omega arith))
-      ∙ terms-cell (row g p) i k ∙ sym (grid-stands b terms_at 6 (get_or b 1 0) 6 p i l k))
+      rw (terms-rows (view b).given g refl refl term-read) (grid-stands b terms_at 6 (get_or b 1 0) 6)
 
   pub view-holds : Holds b (view b)
   unfolding view
@@ -631,7 +658,7 @@ module _ (y : Day) (s : Shaped y) (b c : List ℕ) where
   pub given-kept : ((j : ℕ) → 4 ≤ j → j < positions_at → get_or c j 0 ≡ get_or b j 0) → HoldsGiven b y.given → HoldsGiven c y.given
   given-kept same v = record {
     codes = stands-agree b c codes_at 12 y.given.issues 12 y.given.codes (omega arith) (λ j l k. same j (omega arith) (omega (arith, s.most))) v.codes;
-    terms = stands-agree b c terms_at 6 y.given.issues 6 (map terms_row y.given.terms) (omega arith) (λ j l k. same j (omega arith) (omega (arith, s.most))) v.terms;
+    terms = stands-agree b c terms_at 6 y.given.issues 6 (terms_rows y.given) (omega arith) (λ j l k. same j (omega arith) (omega (arith, s.most))) v.terms;
     receipts = stands-agree b c receipts_at 32 y.given.participants y.given.issues y.given.receipts s.most (λ j l k. same j (omega arith) (omega (arith, s.few))) v.receipts;
     pairs = λ q h. stands-agree b c (pairs_at + 144 * q) 12 y.given.participants y.given.participants (row y.given.pairs q) s.few (λ j l k. same j (omega arith) (omega (arith, s.few))) (v.pairs q h);
   }

@@ -77,6 +77,7 @@ module _ (y : Day) (s : Shaped y) (p : ℕ) (issues lots : List ℕ) (h : Notice
     most = s.most;
     codes = s.codes;
     terms = s.terms;
+    marks = s.marks;
     receipts = s.receipts;
     pairs = s.pairs;
     baskets = s.baskets;

@@ -19,9 +19,9 @@ use Rattle.lists.proofs.FoldLaws.{sum_zeros, every_map, every-join, every-parts}
 use Rattle.lists.proofs.TableLaws.{length-table, length-zeros, get_or-table, get_or-zeros}
 use Rattle.lists.proofs.PartLaws.{Inside, Outside, Shape, Stands, grid-shape, length-written, written_out, written-reads, rising-past}
 use Rattle.rule.specs.Isin.{codes_right}
-use Rattle.rule.specs.Day.{Given, baskets, mark, terms_of, given_of, opened}
+use Rattle.rule.specs.Day.{Given, baskets, mark, terms_of, given_of, opened, marks_of}
 use Rattle.rule.specs.Layout.{codes_at, positions_at, notices_at, today_at, tally_at, book_length, signed, signed_rows, given_tables, tables_of, stored}
-use Rattle.rule.specs.Sound.{sizes_fit, all_terms_fit, at_most, receipts_fit, marks_fit, position_limit, notice_limit, tally_limit}
+use Rattle.rule.specs.Sound.{sizes_fit, all_terms_fit, at_most, receipts_fit, pairs_fit, position_limit, notice_limit, tally_limit}
 use Rattle.rule.proofs.SoundLaws.{Most, of-most, Sizes, sizes-of, SoundDay}
 use Rattle.rule.proofs.LayoutLaws.{Shaped, Signed, Signs, Holds, signed-cell, given_inside, given-rise, reads-given, outside-sizes, stored_is}
 
@@ -33,9 +33,9 @@ pub record Openable (n m : ℕ) (codes terms receipts pairs : List ℕ) : Type 0
   pub receipts_size : length receipts ≡ n * m
   pub pairs_size : length pairs ≡ 7 * (n * n)
   pub codes_right : codes_right (given_of n m codes terms receipts pairs).codes ≡ true
-  pub terms_fit : all_terms_fit m (given_of n m codes terms receipts pairs).terms ≡ true
+  pub terms_fit : all_terms_fit m (given_of n m codes terms receipts pairs).terms (given_of n m codes terms receipts pairs).marks ≡ true
   pub receipts_fit : receipts_fit n m (given_of n m codes terms receipts pairs).receipts ≡ true
-  pub pairs_fit : marks_fit n (given_of n m codes terms receipts pairs).pairs ≡ true
+  pub pairs_fit : pairs_fit n (given_of n m codes terms receipts pairs).pairs ≡ true
 
 -- ---- tables of zeros
 
@@ -57,8 +57,8 @@ zero-most bound n m p i l k = omega (arith, zero-cell n m p i l)
 zero-sum : (n m p : ℕ) → p < n → sum (row (zero_rows n m) p) ≡ 0
 zero-sum n m p l = rw (get_or-table n (λ p. zeros m) p [] l) (sum_zeros (zeros m) (λ i k. get_or-zeros m i))
 
-zero-marks : (n : ℕ) → marks_fit n (table baskets (λ k. zero_rows n n)) ≡ true
-unfolding marks_fit
+zero-marks : (n : ℕ) → pairs_fit n (table baskets (λ k. zero_rows n n)) ≡ true
+unfolding pairs_fit
 zero-marks n =
     let t : List (List (List ℕ)) = table 7 (λ k. zero_rows n n) in
     let r : (k : ℕ) → k < 7 → row t k ≡ zero_rows n n = λ k l. get_or-table 7 (λ k. zero_rows n n) k [] l in
@@ -83,6 +83,7 @@ module _ (n m : ℕ) (codes terms receipts pairs : List ℕ) (h : Openable n m c
     most = sizes.most;
     codes = grid-shape codes 0 12 m 12 (omega arith) (omega (arith, h.codes_size));
     terms = length-map (grid terms 0 6 m 6) terms_of ∙ length-table m _;
+    marks = length-map (grid terms 0 6 m 6) marks_of ∙ length-table m _;
     receipts = grid-shape receipts 0 m n m (le_refl m) (omega (arith, h.receipts_size, mul_comm n m));
     pairs = λ k l. subst (λ (rows : List (List ℕ)). Shape rows n n) (sym (get_or-table 7 (λ k. grid pairs (n * n * k) n n n) k [] l))
         (grid-shape pairs (n * n * k) n n n (le_refl n) (omega (arith, h.pairs_size, mul-le-mul_left (n * n) l, mul-suc (n * n) k, mul_comm (n * n) 7)));

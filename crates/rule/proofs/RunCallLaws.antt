@@ -11,7 +11,8 @@ use Rattle.lists.specs.Parts.{over}
 use Rattle.lists.proofs.TestLaws.{both_ways}
 use Rattle.rule.specs.Day.{Day}
 use Rattle.rule.specs.Run.{Allocation, allocations, ran, match_list, line_list}
-use Rattle.rule.specs.Calls.{Reply, accepted, counts, refused, answer, refusal, match_size, line_size, most_matches, most_lines, run_checks, run_reply}
+use Rattle.rule.specs.Entries.{match_size, line_size}
+use Rattle.rule.specs.Calls.{Reply, accepted, counts, refused, answer, refusal, most_matches, most_lines, run_checks, run_reply}
 use Rattle.rule.specs.Layout.{view, stored, sound_book, run_of}
 use Rattle.rule.proofs.LayoutLaws.{view-shaped, view-signed}
 use Rattle.rule.proofs.BookLaws.{SoundBook}

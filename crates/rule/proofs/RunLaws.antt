@@ -18,12 +18,13 @@ use Rattle.lists.proofs.TestLaws.{pick_yes, and_left, and_right, all-at}
 use Rattle.lists.proofs.FoldLaws.{total-append, total-cong, total-bound, length-total, fold-kept, every_append, every-from, every_map, every-mem}
 use Rattle.lists.proofs.TableLaws.{length-table}
 use Rattle.lists.proofs.OrderLaws.{ranked-mem, ranked-below}
+use Rattle.rule.specs.Allocable.{Marks, no_marks}
 use Rattle.rule.specs.Value.{Terms, no_terms}
 use Rattle.rule.specs.Matching.{OneZero, Match, plan}
 use Rattle.rule.specs.Filling.{worth, filled, forced_issue, all_lots, match_lots}
 use Rattle.rule.specs.Day.{Day}
 use Rattle.rule.specs.Run.{Allocation, used_table, usable, issue_order, allocate, basket_plan, basket, allocations, covered_from, covered_to}
-use Rattle.rule.specs.Sound.{terms_fit, all_terms_fit}
+use Rattle.rule.specs.Sound.{terms_fit, all_terms_fit, marks_fit}
 use Rattle.rule.proofs.SoundLaws.{Sizes, sizes-of, SoundDay}
 use Rattle.rule.proofs.LayoutLaws.{Shaped, Signed}
 use Rattle.rule.proofs.DrawLaws.{EachOnce, draw-names}
@@ -158,19 +159,18 @@ pub record Allocated (y : Day) (a : Allocation) : Type 0 where
   pub third : y.state.runs ≡ 2 → a.filled.covered ≡ a.match.amount
 
 -- "price (.. 1,000 to 30,000)"
-second-of : (a b c d e f g : Bool) → (a && b && c && d && e && f && g) ≡ true → b ≡ true
-second-of a b c d e f g h =
-    and_right a b (and_left (a && b) c (and_left (a && b && c) d (and_left (a && b && c && d) e (and_left (a && b && c && d && e) f (and_left (a && b && c && d && e && f) g h)))))
+second-of : (a b c d e : Bool) → (a && b && c && d && e) ≡ true → b ≡ true
+second-of a b c d e h = and_right a b (and_left (a && b) c (and_left (a && b && c) d (and_left (a && b && c && d) e h)))
 
 price-from : (t : Terms) → terms_fit t ≡ true → 1000 ≤ t.price
 unfolding terms_fit
-price-from t h =
-    leb-true 1000 t.price
-    (second-of (leb t.kind 6) (leb 1000 t.price) (leb t.price 30000) (leb t.coupon 20000) (leb t.days 366) (leb t.redeemed 1) (leb t.interest 1) h)
+price-from t h = leb-true 1000 t.price (second-of (leb t.kind 6) (leb 1000 t.price) (leb t.price 30000) (leb t.coupon 20000) (leb t.days 366) h)
 
-pub prices : (m : ℕ) (ts : List Terms) → all_terms_fit m ts ≡ true → length ts ≡ m → (i : ℕ) → i < length ts → 1000 ≤ (get_or ts i no_terms).price
+pub prices : (m : ℕ) (ts : List Terms) (ms : List Marks) → all_terms_fit m ts ms ≡ true → length ts ≡ m → (i : ℕ) → i < length ts → 1000 ≤ (get_or ts i no_terms).price
 unfolding all_terms_fit
-prices m ts h e i l = price-from (get_or ts i no_terms) (all-at (λ i. terms_fit (get_or ts i no_terms)) m h i (omega arith))
+prices m ts ms h e i l =
+    price-from (get_or ts i no_terms)
+    (and_left (terms_fit (get_or ts i no_terms)) _ (all-at (λ i. terms_fit (get_or ts i no_terms) && marks_fit (get_or ms i no_marks)) m h i (omega arith)))
 
 module _ (y : Day) (draw : List ℕ) (h : Runnable y draw) where
   abbrev n : ℕ
@@ -183,7 +183,7 @@ module _ (y : Day) (draw : List ℕ) (h : Runnable y draw) where
   sizes = sizes-of n y.given.issues h.day.sizes
 
   priced : Priced ts
-  priced i l = omega (arith, prices y.given.issues ts h.day.terms h.shaped.terms i l)
+  priced i l = omega (arith, prices y.given.issues ts y.given.marks h.day.terms h.shaped.terms i l)
 
   length-usable : (k : ℕ) (before : List (List ℕ)) (done : List Allocation) (d : ℕ) → length (usable y k before done d) ≡ length ts
   unfolding usable
@@ -203,19 +203,19 @@ module _ (y : Day) (draw : List ℕ) (h : Runnable y draw) where
 
   module _ (k : ℕ) (before : List (List ℕ)) (done : List Allocation) (m : Match) where
     abbrev f : ℕ
-    f = forced_issue k ts (row y.state.notices m.deliverer)
+    f = forced_issue k ts y.given.marks (row y.state.notices m.deliverer)
 
     pub allocate-right : FilledRight ts (usable y k before done m.deliverer) m.amount (allocate y k before done m).filled
     unfolding allocate
     allocate-right =
         filled-right ts priced (usable y k before done m.deliverer) (length-usable k before done m.deliverer) (issue_order y before m.preferential m.deliverer)
-        (order-named before m.preferential m.deliverer) m.preferential m.amount y.state.runs f (forced-of-day k ts some-issue _)
+        (order-named before m.preferential m.deliverer) m.preferential m.amount y.state.runs f (forced-of-day k ts y.given.marks some-issue _)
 
     allocate-sized : 0 < m.amount → FilledSized ts y.state.runs (allocate y k before done m).filled
     unfolding allocate
     allocate-sized some =
         filled-sized ts priced (usable y k before done m.deliverer) (length-usable k before done m.deliverer) (issue_order y before m.preferential m.deliverer)
-        (order-named before m.preferential m.deliverer) m.preferential some-issue y.state.runs f m.amount (forced-of-day k ts some-issue _) some
+        (order-named before m.preferential m.deliverer) m.preferential some-issue y.state.runs f m.amount (forced-of-day k ts y.given.marks some-issue _) some
 
     allocate-third : y.state.runs ≡ 2 → (allocate y k before done m).filled.covered ≡ m.amount
     unfolding allocate

@@ -125,7 +125,7 @@ module _ (y : Day) (draw : List ℕ) (h : Runnable y draw) where
     where
       go : Dec (0 < a.filled.covered) → 5000 * all_lots a.filled i ≤ a.filled.covered + 5000
       go (yes q) =
-          lots-paid y.given.terms a.filled (r.issues ∙ sym h.shaped.terms) (prices y.given.issues y.given.terms h.day.terms h.shaped.terms)
+          lots-paid y.given.terms a.filled (r.issues ∙ sym h.shaped.terms) (prices y.given.issues y.given.terms y.given.marks h.day.terms h.shaped.terms)
           (r.fewest q) i (omega (arith, h.shaped.terms))
       go (no q) = omega (arith, r.none (omega arith) i)
 

@@ -18,7 +18,7 @@ use Rattle.lists.proofs.TableLaws.{length-table, get_or-table}
 use Rattle.lists.proofs.PartLaws.{Shape}
 use Rattle.rule.specs.Day.{Day, mark}
 use Rattle.rule.specs.Run.{Allocation, allocations, covered_from, covered_to, lots_from, lots_to, covered_pair, ran}
-use Rattle.rule.specs.Sound.{at_most, marks_fit, tradable, position_limit, tally_limit}
+use Rattle.rule.specs.Sound.{at_most, pairs_fit, tradable, position_limit, tally_limit}
 use Rattle.rule.proofs.SoundLaws.{Most, most-of, of-most, SoundDay}
 use Rattle.rule.proofs.LayoutLaws.{Shaped, Signed}
 use Rattle.rule.proofs.OpenLaws.{zero-shape, zero-cell}
@@ -42,22 +42,22 @@ rows-most bound n m f h p i l k = omega (arith, rows-cell n m f p i l k, h p i l
 
 -- ---- marks, both ways
 
-pub record Marks (n : ℕ) (t : List (List (List ℕ))) : Type 0 where
+pub record PairMarks (n : ℕ) (t : List (List (List ℕ))) : Type 0 where
   pub most : (k : ℕ) → k < 7 → Most 1 n n (row t k)
   pub self : (k p : ℕ) → k < 7 → p < n → mark t k p p ≡ 0
 
-pub marks-of : (n : ℕ) (t : List (List (List ℕ))) → marks_fit n t ≡ true → Marks n t
-unfolding marks_fit
-marks-of n t h = record {
+pub pair-marks-of : (n : ℕ) (t : List (List (List ℕ))) → pairs_fit n t ≡ true → PairMarks n t
+unfolding pairs_fit
+pair-marks-of n t h = record {
   most = λ k l. most-of 1 n n (row t k) (all-at (λ k. at_most 1 n n (row t k)) 7 (and_left _ (all_below 7 (λ k. all_below n (λ p. eqb (mark t k p p) 0))) h) k l);
   self = λ k p l q.
       eqb-true (mark t k p p) 0
       (all-at (λ p. eqb (mark t k p p) 0) n (all-at (λ k. all_below n (λ p. eqb (mark t k p p) 0)) 7 (and_right (all_below 7 (λ k. at_most 1 n n (row t k))) _ h) k l) p q);
 }
 
-pub of-marks : (n : ℕ) (t : List (List (List ℕ))) → Marks n t → marks_fit n t ≡ true
-unfolding marks_fit
-of-marks n t m =
+pub of-pair-marks : (n : ℕ) (t : List (List (List ℕ))) → PairMarks n t → pairs_fit n t ≡ true
+unfolding pairs_fit
+of-pair-marks n t m =
     go _ _ (all_of (λ k. at_most 1 n n (row t k)) 7 (λ k l. of-most 1 n n (row t k) (m.most k l)))
     (all_of (λ k. all_below n (λ p. eqb (mark t k p p) 0)) 7 (λ k l. all_of (λ p. eqb (mark t k p p) 0) n (λ p q. eq-eqb (mark t k p p) 0 (m.self k p l q))))
 
@@ -101,6 +101,7 @@ module _ (y : Day) (draw : List ℕ) (h : Runnable y draw) where
     most = h.shaped.most;
     codes = h.shaped.codes;
     terms = h.shaped.terms;
+    marks = h.shaped.marks;
     receipts = h.shaped.receipts;
     pairs = h.shaped.pairs;
     baskets = h.shaped.baskets;
@@ -181,9 +182,9 @@ module _ (y : Day) (draw : List ℕ) (h : Runnable y draw) where
       (every_map (Allocated y) (λ a. pick (eqb a.basket k && eqb a.match.deliverer p && eqb a.match.receiver p) a.filled.covered 0 ≡ 0) (self-none k p) done (allocated y draw h))
       ∙ total-zero done
 
-  today-marks : Marks n today
+  today-marks : PairMarks n today
   today-marks =
-      let was : Marks n y.state.today = marks-of n y.state.today h.day.today in
+      let was : PairMarks n y.state.today = pair-marks-of n y.state.today h.day.today in
       record {
         most = λ k l. rw (today-row k l) (rows-most 1 n n (marked k) (λ d r a b.
             pick-elim (λ (x : ℕ). x ≤ 1) (ltb 0 (covered_pair done k d r)) 1 (mark y.state.today k d r) (le_refl 1) (was.most k l d r a b)));
@@ -252,7 +253,7 @@ module _ (y : Day) (draw : List ℕ) (h : Runnable y draw) where
     delivered = rows-most (tally_limit * (y.state.runs + 1)) n m (λ p i. out p i - back p i) (λ p i l k. omega (arith, out-most p i l k));
     received = rows-most (tally_limit * (y.state.runs + 1)) n m (λ p i. back p i - out p i) (λ p i l k. omega (arith, back-most p i l k));
     pairs = h.day.pairs;
-    today = of-marks n today today-marks;
+    today = of-pair-marks n today today-marks;
     done = λ e.
         let two : y.state.runs ≡ 2 = omega arith in (
           rows-most 0 7 n owed_left (λ k p l q. omega (arith, owed-third two k p l)),
@@ -261,7 +262,7 @@ module _ (y : Day) (draw : List ℕ) (h : Runnable y draw) where
         );
   }
     where
-      free : (k : ℕ) → k < 7 → (sum (row y.state.owed k) + sum (row y.state.due k) ≡ 0) ⊎ (tradable k y.given.terms ≡ true)
-          → (sum (row (table 7 (λ k. table n (λ p. owed_left k p))) k) + sum (row (table 7 (λ k. table n (λ p. due_left k p))) k) ≡ 0) ⊎ (tradable k y.given.terms ≡ true)
+      free : (k : ℕ) → k < 7 → (sum (row y.state.owed k) + sum (row y.state.due k) ≡ 0) ⊎ (tradable k y.given.terms y.given.marks ≡ true)
+          → (sum (row (table 7 (λ k. table n (λ p. owed_left k p))) k) + sum (row (table 7 (λ k. table n (λ p. due_left k p))) k) ≡ 0) ⊎ (tradable k y.given.terms y.given.marks ≡ true)
       free k l (inl e) = inl (omega (arith, owed_sum k l, due_sum k l))
       free k l (inr e) = inr e

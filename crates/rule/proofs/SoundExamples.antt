@@ -7,7 +7,7 @@ use mathlib.Core.List.{List, [], ◌∷◌, ◌++◌, map}
 use lib.ListN.{set}
 use Rattle.lists.specs.Tables.{zeros, zero_rows, table, put}
 use Rattle.lists.specs.Folds.{joined}
-use Rattle.rule.specs.Day.{State, Day, given_of, opened, with_trades, with_notices}
+use Rattle.rule.specs.Day.{State, Day, given_of, opened}
 use Rattle.rule.specs.Sound.{sound}
 use Rattle.rule.specs.Layout.{terms_at, book_length, sound_book}
 use Rattle.rule.specs.WorkedDays.{wrong_code}
@@ -87,7 +87,7 @@ today d r mark = with (after 0 no_positions no_positions (set no_pairs 6 (put no
 
 -- participant 2 has notified lots of issue 2
 abbrev notified : ℕ → ℕ → Day
-notified runs lots = with (with_notices (ended runs) (put none 2 2 lots))
+notified runs lots = with (record (ended runs) { notices = put none 2 2 lots })
 
 -- a book of n cells with two participants and one issue: sizes and counts, codes, terms, and zeros
 abbrev booked : ℕ → List ℕ
@@ -107,7 +107,7 @@ record Soundness : Type 0 where
   code : sound (given wrong_code (issue 2 0 0) (zeros 2) (zeros 28)) ≡ false
   -- "notice and trade limits"
   notices : map (λ n. sound (notified 0 n)) (200000000 ∷ 200000001 ∷ []) ≡ true ∷ false ∷ []
-  trades : map (λ n. sound (with (with_trades (ended 0) n))) (10000 ∷ 10001 ∷ []) ≡ true ∷ false ∷ []
+  trades : map (λ n. sound (with (record (ended 0) { trades = n }))) (10000 ∷ 10001 ∷ []) ≡ true ∷ false ∷ []
   -- "positions are within 10^13", either way
   owed : map sound (in_c (10000000000000 ∷ 0 ∷ 0 ∷ []) (0 ∷ 5000000000000 ∷ 5000000000000 ∷ []) ∷ in_c (10000000000001 ∷ 0 ∷ 0 ∷ []) (0 ∷ 5000000000001 ∷ 5000000000000 ∷ []) ∷ [])
       ≡ true ∷ false ∷ []

@@ -14,7 +14,7 @@ use Rattle.lists.specs.Folds.{sum}
 use Rattle.lists.proofs.TestLaws.{holds_at, holds-all, or_left, or_right, all-at, all_of, and_left, and_right, or_cases, go}
 use Rattle.rule.specs.Isin.{codes_right}
 use Rattle.rule.specs.Day.{State, Day}
-use Rattle.rule.specs.Sound.{sizes_fit, all_terms_fit, at_most, receipts_fit, marks_fit, tradable, position_limit, notice_limit, tally_limit, trade_limit, sound}
+use Rattle.rule.specs.Sound.{sizes_fit, all_terms_fit, at_most, receipts_fit, pairs_fit, tradable, position_limit, notice_limit, tally_limit, trade_limit, sound}
 
 -- every cell of n rows of m is at most a bound
 abbrev pub Most : ℕ → ℕ → ℕ → List (List ℕ) → Type 0
@@ -53,18 +53,18 @@ pub record SoundDay (y : Day) : Type 0 where
   pub runs : y.state.runs ≤ 3
   pub sizes : sizes_fit y.given.participants y.given.issues ≡ true
   pub codes : codes_right y.given.codes ≡ true
-  pub terms : all_terms_fit y.given.issues y.given.terms ≡ true
+  pub terms : all_terms_fit y.given.issues y.given.terms y.given.marks ≡ true
   pub receipts : receipts_fit y.given.participants y.given.issues y.given.receipts ≡ true
   pub notices : Most notice_limit y.given.participants y.given.issues y.state.notices
   pub trades : y.state.trades ≤ trade_limit
   pub owed : Most position_limit 7 y.given.participants y.state.owed
   pub due : Most position_limit 7 y.given.participants y.state.due
   pub even : (k : ℕ) → k < 7 → sum (row y.state.owed k) ≡ sum (row y.state.due k)
-  pub tradable : (k : ℕ) → k < 7 → (sum (row y.state.owed k) + sum (row y.state.due k) ≡ 0) ⊎ (tradable k y.given.terms ≡ true)
+  pub tradable : (k : ℕ) → k < 7 → (sum (row y.state.owed k) + sum (row y.state.due k) ≡ 0) ⊎ (tradable k y.given.terms y.given.marks ≡ true)
   pub delivered : Most (tally_limit * y.state.runs) y.given.participants y.given.issues y.state.delivered
   pub received : Most (tally_limit * y.state.runs) y.given.participants y.given.issues y.state.received
-  pub pairs : marks_fit y.given.participants y.given.pairs ≡ true
-  pub today : marks_fit y.given.participants y.state.today ≡ true
+  pub pairs : pairs_fit y.given.participants y.given.pairs ≡ true
+  pub today : pairs_fit y.given.participants y.state.today ≡ true
   pub done : y.state.runs ≡ 3 → Most 0 7 y.given.participants y.state.owed × Most 0 7 y.given.participants y.state.due × Most 0 y.given.participants y.given.issues y.state.notices
 
 -- the tests of the last two clauses as facts
@@ -123,8 +123,8 @@ sound-facts y h =
       due = most-of position_limit 7 n s.due (holds_at _ h 8 (omega arith));
       even = λ k l. eqb-true (sum (row s.owed k)) (sum (row s.due k)) (all-at (λ k. eqb (sum (row s.owed k)) (sum (row s.due k))) 7 (holds_at _ h 9 (omega arith)) k l);
       tradable = λ k l.
-          free-or-tradable (sum (row s.owed k)) (sum (row s.due k)) (tradable k y.given.terms)
-          (all-at (λ k. eqb (sum (row s.owed k) + sum (row s.due k)) 0 || tradable k y.given.terms) 7 (holds_at _ h 10 (omega arith)) k l);
+          free-or-tradable (sum (row s.owed k)) (sum (row s.due k)) (tradable k y.given.terms y.given.marks)
+          (all-at (λ k. eqb (sum (row s.owed k) + sum (row s.due k)) 0 || tradable k y.given.terms y.given.marks) 7 (holds_at _ h 10 (omega arith)) k l);
       delivered = most-of (tally_limit * s.runs) n m s.delivered (holds_at _ h 11 (omega arith));
       received = most-of (tally_limit * s.runs) n m s.received (holds_at _ h 12 (omega arith));
       pairs = holds_at _ h 13 (omega arith);
@@ -159,8 +159,8 @@ facts-sound y d =
                       (
                         all_of (λ k. eqb (sum (row s.owed k)) (sum (row s.due k))) 7 (λ k l. eq-eqb _ _ (d.even k l)),
                         (
-                          all_of (λ k. eqb (sum (row s.owed k) + sum (row s.due k)) 0 || tradable k y.given.terms) 7 (λ k l.
-                              tradable-or-free (sum (row s.owed k)) (sum (row s.due k)) (tradable k y.given.terms) (d.tradable k l)),
+                          all_of (λ k. eqb (sum (row s.owed k) + sum (row s.due k)) 0 || tradable k y.given.terms y.given.marks) 7 (λ k l.
+                              tradable-or-free (sum (row s.owed k)) (sum (row s.due k)) (tradable k y.given.terms y.given.marks) (d.tradable k l)),
                           (
                             of-most (tally_limit * s.runs) n m s.delivered d.delivered,
                             (

@@ -19,7 +19,8 @@ use Rattle.rule.specs.Day.{Day, notice_row, noticed, traded}
 use Rattle.rule.specs.Run.{Allocation, allocable_of, allocations, covered_from, covered_to, used, line_list, ran}
 use Rattle.rule.specs.Calls.{Reply, accepted, counts, refused, answer, refusal, trade_checks, distinct, notice_checks, run_checks, run_reply, close_checks}
 use Rattle.rule.specs.Layout.{view, sound_book, trade_of, notice_of, run_of, close_of}
-use Rattle.rule.specs.Claims.{Words, MatchEntry, LineEntry, Call, trade, notice, run, close, Event, sold_in, bought_in, delivered_in, received_in, lots_by, forced_by, is_run, named, notified_after, line_of}
+use Rattle.rule.specs.Entries.{MatchEntry, LineEntry, line_of}
+use Rattle.rule.specs.Claims.{Words, Call, trade, notice, run, close, Event, sold_in, bought_in, delivered_in, received_in, lots_by, forced_by, is_run, named, notified_after}
 use Rattle.rule.proofs.LayoutLaws.{Shaped, view-shaped}
 use Rattle.rule.proofs.BookLaws.{SoundBook}
 use Rattle.rule.proofs.TradeLaws.{Tradeable, owed2, due2, traded-owed, traded-due, owed-seller, due-seller, owed-buyer, due-buyer, owed-other, due-other, which}

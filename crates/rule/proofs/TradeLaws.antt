@@ -22,7 +22,7 @@ pub record Tradeable (y : Day) (seller buyer k yen : ℕ) : Type 0 where
   pub basket : k < 7
   pub apart : seller ≢ buyer
   pub runs : y.state.runs < 3
-  pub tradable : tradable k y.given.terms ≡ true
+  pub tradable : tradable k y.given.terms y.given.marks ≡ true
   pub sold : cell y.state.owed k seller + yen - cell y.state.due k seller ≤ position_limit
   pub bought : cell y.state.due k buyer + yen - cell y.state.owed k buyer ≤ position_limit
   pub trades : y.state.trades < trade_limit
@@ -111,6 +111,7 @@ module _ (y : Day) (s : Shaped y) (seller buyer k yen : ℕ) (h : Tradeable y se
     most = s.most;
     codes = s.codes;
     terms = s.terms;
+    marks = s.marks;
     receipts = s.receipts;
     pairs = s.pairs;
     baskets = s.baskets;
@@ -203,6 +204,6 @@ module _ (y : Day) (s : Shaped y) (seller buyer k yen : ℕ) (h : Tradeable y se
       evens j l (yes e) = rw e (even-k (z.even k h.basket))
       evens j l (no ne) = rw ((row_other j ne).0, (row_other j ne).1) (z.even j l)
 
-      frees : (j : ℕ) → j < 7 → Dec (j ≡ k) → (sum (row owed2 j) + sum (row due2 j) ≡ 0) ⊎ (tradable j y.given.terms ≡ true)
+      frees : (j : ℕ) → j < 7 → Dec (j ≡ k) → (sum (row owed2 j) + sum (row due2 j) ≡ 0) ⊎ (tradable j y.given.terms y.given.marks ≡ true)
       frees j l (yes e) = inr (rw e h.tradable)
       frees j l (no ne) = rw ((row_other j ne).0, (row_other j ne).1) (z.tradable j l)

@@ -20,7 +20,8 @@ use Rattle.rule.specs.Run.{Allocation, allocations, ran, match_list, line_list}
 use Rattle.rule.specs.Sound.{sound}
 use Rattle.rule.specs.Calls.{Reply, accepted, refused, answer, open_checks, refusal, trade_checks, notice_checks, run_checks, run_reply, close_checks, tomorrow_receipts, tomorrow_pairs}
 use Rattle.rule.specs.Layout.{book_length, view, stored, book_fits, sound_book, open_of, trade_of, notice_of, run_of, close_of}
-use Rattle.rule.specs.Claims.{Words, MatchEntry, LineEntry, match_of, line_of, matches_of, lines_of, Call, trade, notice, run, close, Event, History, next, history}
+use Rattle.rule.specs.Entries.{MatchEntry, LineEntry, match_of, line_of}
+use Rattle.rule.specs.Claims.{Words, matches_of, lines_of, Call, trade, notice, run, close, Event, History, next, history}
 use Rattle.rule.proofs.CallLaws.{opening-sound, trade-sound, notice-sound}
 use Rattle.rule.proofs.RunCallLaws.{RunLeaves, run_sound}
 use Rattle.rule.proofs.HandedLaws.{entries, matches-are, lines_are}

@@ -17,24 +17,24 @@ use Rattle.lists.proofs.TestLaws.{and_left, and_right, or_cases, all-at}
 use Rattle.lists.proofs.FoldLaws.{every_append, every-index, every-join, every-joined}
 use Rattle.lists.proofs.TableLaws.{get_or-zeros}
 use Rattle.lists.proofs.PartLaws.{Shape}
+use Rattle.rule.specs.Allocable.{Marks, no_marks}
 use Rattle.rule.specs.Value.{Terms, no_terms}
 use Rattle.rule.specs.Isin.{digit, capital, check_digit, is_isin, is_code, rising, codes_right}
-use Rattle.rule.specs.Day.{Day, given_of, opened, traded, noticed}
+use Rattle.rule.specs.Day.{Day, given_of, opened, traded, noticed, Given}
 use Rattle.rule.specs.Run.{allocations, ran}
-use Rattle.rule.specs.Sound.{terms_fit, all_terms_fit, receipts_fit}
+use Rattle.rule.specs.Sound.{terms_fit, all_terms_fit, receipts_fit, marks_fit}
 use Rattle.rule.specs.Calls.{accepted, counts, open_checks, refusal, trade_checks, notice_checks}
-use Rattle.rule.specs.Layout.{pairs_at, today_at, book_length, signed, signed_rows, terms_row, cube_rows, tables_of, view, stored, book_fits, sound_book, open_of, trade_of, notice_of, run_of}
+use Rattle.rule.specs.Layout.{pairs_at, today_at, book_length, signed, signed_rows, terms_row, terms_rows, cube_rows, tables_of, view, stored, book_fits, sound_book, open_of, trade_of, notice_of, run_of}
 use Rattle.rule.specs.Claims.{Words}
 use Rattle.rule.proofs.SoundLaws.{Most, most-of, Sizes, sizes-of, SoundDay}
-use Rattle.rule.proofs.LayoutLaws.{Shaped, view-shaped}
+use Rattle.rule.proofs.LayoutLaws.{Shaped, view-shaped, terms-at, terms-length}
 use Rattle.rule.proofs.BookLaws.{SoundBook}
 use Rattle.rule.proofs.OpenLaws.{Openable, opened-shaped, opened-sound}
 use Rattle.rule.proofs.TradeLaws.{Tradeable, traded-shaped, traded-sound}
 use Rattle.rule.proofs.NoticeLaws.{Noticeable, noticed-shaped, noticed-sound}
 use Rattle.rule.proofs.CallLaws.{passed, left, was-sound, openable, tradeable, noticeable}
 use Rattle.lists.proofs.FoldLaws.{every_get}
-use Rattle.rule.proofs.SumLaws.{every-mapped}
-use Rattle.rule.proofs.RunSound.{Marks, marks-of, ran-shaped, ran-sound}
+use Rattle.rule.proofs.RunSound.{PairMarks, pair-marks-of, ran-shaped, ran-sound}
 use Rattle.rule.proofs.RunCallLaws.{RunLeaves, run_sound}
 
 abbrev pub Word : ℕ → Type 0
@@ -129,19 +129,15 @@ codes-words codes m s h =
     most-words 90 m 12 codes (omega arith) s (λ p i l k.
     code-small (row codes p) (all-at (λ i. is_code (get_or codes i [])) (length codes) (and_left (all_below (length codes) (λ i. is_code (get_or codes i []))) (rising codes) h) p (omega (arith, s.rows))) i k)
 
-terms-words : (t : Terms) → terms_fit t ≡ true → Every Word (terms_row t)
-unfolding terms_fit
-terms-words t h =
+terms-words : (t : Terms) (m : Marks) → terms_fit t ≡ true → marks_fit m ≡ true → Every Word (terms_row t m)
+unfolding terms_fit marks_fit
+terms-words t m h k =
     let kind : Bool = leb t.kind 6 in
     let low : Bool = leb 1000 t.price in
     let price : Bool = leb t.price 30000 in
     let coupon : Bool = leb t.coupon 20000 in
     let days : Bool = leb t.days 366 in
-    let redeemed : Bool = leb t.redeemed 1 in
-    let interest : Bool = leb t.interest 1 in
-    let six : (kind && low && price && coupon && days && redeemed) ≡ true = and_left (kind && low && price && coupon && days && redeemed) interest h in
-    let five : (kind && low && price && coupon && days) ≡ true = and_left (kind && low && price && coupon && days) redeemed six in
-    let four : (kind && low && price && coupon) ≡ true = and_left (kind && low && price && coupon) days five in
+    let four : (kind && low && price && coupon) ≡ true = and_left (kind && low && price && coupon) days h in
     let three : (kind && low && price) ≡ true = and_left (kind && low && price) coupon four in
     let two : (kind && low) ≡ true = and_left (kind && low) price three in (
       omega (arith, leb-true t.kind 6 (and_left kind low two)),
@@ -150,21 +146,25 @@ terms-words t h =
         (
           omega (arith, leb-true t.coupon 20000 (and_right (kind && low && price) coupon four)),
           (
-            omega (arith, leb-true t.days 366 (and_right (kind && low && price && coupon) days five)),
+            omega (arith, leb-true t.days 366 (and_right (kind && low && price && coupon) days h)),
             (
-              omega (arith, leb-true t.redeemed 1 (and_right (kind && low && price && coupon && days) redeemed six)),
-              (omega (arith, leb-true t.interest 1 (and_right (kind && low && price && coupon && days && redeemed) interest h)), tt),
+              omega (arith, leb-true m.redeemed 1 (and_left (leb m.redeemed 1) (leb m.interest 1) k)),
+              (omega (arith, leb-true m.interest 1 (and_right (leb m.redeemed 1) (leb m.interest 1) k)), tt),
             ),
           ),
         ),
       ),
     )
 
-all-terms-words : (m : ℕ) (ts : List Terms) → length ts ≡ m → all_terms_fit m ts ≡ true → Every (Every Word) (map terms_row ts)
+all-terms-words : (g : Given) → all_terms_fit g.issues g.terms g.marks ≡ true → Every (Every Word) (terms_rows g)
 unfolding all_terms_fit
-all-terms-words m ts e h =
-    every-mapped (Every Word) terms_row ts
-    (every-index (λ t. Every Word (terms_row t)) no_terms ts (λ i l. terms-words (get_or ts i no_terms) (all-at (λ i. terms_fit (get_or ts i no_terms)) m h i (omega arith))))
+all-terms-words g h =
+    every-index (Every Word) [] (terms_rows g) (λ i l.
+    let k : i < g.issues = omega (arith, terms-length g) in
+    let t : Terms = get_or g.terms i no_terms in
+    let m : Marks = get_or g.marks i no_marks in
+    let both : (terms_fit t && marks_fit m) ≡ true = all-at (λ i. terms_fit (get_or g.terms i no_terms) && marks_fit (get_or g.marks i no_marks)) g.issues h i k in
+    rw (terms-at g i k) (terms-words t m (and_left (terms_fit t) (marks_fit m) both) (and_right (terms_fit t) (marks_fit m) both)))
 
 -- ---- a day stored
 
@@ -178,7 +178,7 @@ module _ (y : Day) (s : Shaped y) (d : SoundDay y) where
   sizes : Sizes n m
   sizes = sizes-of n m d.sizes
 
-  cube-words : (at : ℕ) (t : List (List (List ℕ))) → ((k : ℕ) → k < 7 → Shape (row t k) n n) → Marks n t → Every (λ w. Every Word w.1) (cube_rows at t)
+  cube-words : (at : ℕ) (t : List (List (List ℕ))) → ((k : ℕ) → k < 7 → Shape (row t k) n n) → PairMarks n t → Every (λ w. Every Word w.1) (cube_rows at t)
   cube-words at t c h = every-joined (λ w. Every Word w.1) 7 (λ k. rows_at (at + 144 * k) 12 (row t k)) (λ k l.
       every-rows Word 12 (row t k) (at + 144 * k) (most-words 1 n n (row t k) (omega arith) (c k l) (h.most k l)))
 
@@ -188,18 +188,18 @@ module _ (y : Day) (s : Shaped y) (d : SoundDay y) where
     (
       every-rows Word 12 y.given.codes _ (codes-words y.given.codes m s.codes d.codes),
       (
-        every-rows Word 6 (map terms_row y.given.terms) _ (all-terms-words m y.given.terms s.terms d.terms),
+        every-rows Word 6 (terms_rows y.given) _ (all-terms-words y.given d.terms),
         (
           every-rows Word 32 y.given.receipts _
               (most-words 1000000000000 n m y.given.receipts (omega arith) s.receipts (unfold receipts_fit in most-of 1000000000000 n m y.given.receipts d.receipts)),
           (
-            cube-words pairs_at y.given.pairs s.pairs (marks-of n y.given.pairs d.pairs),
+            cube-words pairs_at y.given.pairs s.pairs (pair-marks-of n y.given.pairs d.pairs),
             (
               every-rows Word 12 (signed_rows y.state.owed y.state.due) _ (signed-words y.state.owed y.state.due),
               (
                 every-rows Word 32 y.state.notices _ (most-words 200000000 n m y.state.notices (omega arith) s.notices d.notices),
                 (
-                  cube-words today_at y.state.today s.today (marks-of n y.state.today d.today),
+                  cube-words today_at y.state.today s.today (pair-marks-of n y.state.today d.today),
                   (every-rows Word 32 (signed_rows y.state.delivered y.state.received) _ (signed-words y.state.delivered y.state.received), tt),
                 ),
               ),

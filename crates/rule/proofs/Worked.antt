@@ -7,7 +7,8 @@ use Rattle.lists.specs.Tables.{zeros}
 use Rattle.rule.specs.Day.{Day, baskets}
 use Rattle.rule.specs.Calls.{Reply}
 use Rattle.rule.specs.Layout.{view}
-use Rattle.rule.specs.Claims.{MatchEntry, LineEntry, match_of, line_of, Call}
+use Rattle.rule.specs.Entries.{MatchEntry, LineEntry, match_of, line_of}
+use Rattle.rule.specs.Claims.{Call}
 use Rattle.rule.specs.WorkedDays.{code0, code1, blank, match_places, line_places, Outcome, outcome, parties, WorkedDays}
 use Rattle.rule.proofs.DayCalls.{open_day, run_within, day_history}
 use Rattle.rule.proofs.ViewedLaws.{open-viewed, run-viewed, history-viewed, zeros-read}

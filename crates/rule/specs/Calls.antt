@@ -4,9 +4,10 @@ use Rattle.lists.specs.Tests.{pick, all_below, first}
 use Rattle.lists.specs.Tables.{cell}
 use Rattle.lists.specs.Folds.{total}
 use Rattle.rule.specs.Isin.{codes_right}
-use Rattle.rule.specs.Day.{Given, State, Day, baskets, given_of}
+use Rattle.rule.specs.Day.{Given, State, Day, baskets, code_size, term_size, given_of}
+use Rattle.rule.specs.Entries.{match_size, line_size}
 use Rattle.rule.specs.Run.{Allocation, line_list}
-use Rattle.rule.specs.Sound.{sizes_fit, all_terms_fit, receipts_fit, marks_fit, tradable, position_limit, notice_limit, trade_limit}
+use Rattle.rule.specs.Sound.{sizes_fit, all_terms_fit, receipts_fit, pairs_fit, tradable, position_limit, notice_limit, trade_limit}
 
 -- what a call answers: accepted, a run's counts of matches and lines, or "A refusal returns its number alone"
 pub data Reply : Type 0 where
@@ -26,18 +27,18 @@ open_checks book_fits n m codes terms receipts pairs =
     let g : Given = given_of n m codes terms receipts pairs in
     -- "a size, an array length or the book's length is wrong"
     (1, not (sizes_fit n m))
-    ∷ (1, not (eqb (length codes) (12 * m)))
-    ∷ (1, not (eqb (length terms) (6 * m)))
+    ∷ (1, not (eqb (length codes) (code_size * m)))
+    ∷ (1, not (eqb (length terms) (term_size * m)))
     ∷ (1, not (eqb (length receipts) (n * m)))
     ∷ (1, not (eqb (length pairs) (baskets * (n * n))))
     ∷ (1, not book_fits)
     -- "a code breaks the rule"
     ∷ (2, not (codes_right g.codes))
     -- "a term is outside its range"
-    ∷ (3, not (all_terms_fit m g.terms))
+    ∷ (3, not (all_terms_fit m g.terms g.marks))
     -- "a receipt or pair mark is outside its range, or a pair is of one participant"
     ∷ (4, not (receipts_fit n m g.receipts))
-    ∷ (4, not (marks_fit n g.pairs))
+    ∷ (4, not (pairs_fit n g.pairs))
     ∷ []
 
 -- ---- every other call
@@ -67,7 +68,7 @@ trade_checks y seller buyer k yen =
     ∷ (8, eqb yen 0)
     ∷ (8, ltb 1000000000000 yen)
     -- "the basket has no unmarked issue"
-    ∷ (9, not (tradable k g.terms))
+    ∷ (9, not (tradable k g.terms g.marks))
     -- "a position would pass 10^13 yen either way"
     ∷ (10, ltb position_limit (afterwards (cell s.owed k seller) (cell s.due k seller) yen))
     ∷ (10, ltb position_limit (afterwards (cell s.due k buyer) (cell s.owed k buyer) yen))
@@ -100,13 +101,7 @@ notice_checks y p issues lots =
 unfoldable pub each_once : List ℕ → ℕ → Bool
 each_once draw n = eqb (length draw) n && all_below n (λ p. eqb (total (λ x. pick (eqb x p) 1 0) draw) 1)
 
--- the numbers of a match and of a line in the lent lists, and the most of each
-abbrev pub match_size : ℕ
-match_size = 7
-
-abbrev pub line_size : ℕ
-line_size = 3
-
+-- the most entries of the two lists
 abbrev pub most_matches : ℕ
 most_matches = 77
 

@@ -5,13 +5,15 @@ use Rattle.lists.specs.Tests.{pick, member}
 use Rattle.lists.specs.Tables.{up_to, table, zeros, cell, less}
 use Rattle.lists.specs.Folds.{foldl, total, sum, keep}
 use Rattle.lists.specs.Parts.{grid, block}
-use Rattle.rule.specs.Value.{Terms, no_terms}
+use Rattle.rule.specs.Value.{no_terms}
 use Rattle.rule.specs.Baskets.{within}
+use Rattle.rule.specs.Allocable.{Marks, no_marks}
 use Rattle.rule.specs.Filling.{worth}
 use Rattle.rule.specs.Day.{Given, Day, baskets, given_of}
 use Rattle.rule.specs.Run.{Allocation, allocations, line_list}
-use Rattle.rule.specs.Calls.{Reply, accepted, counts, refused, match_size, line_size, most_matches, most_lines}
-use Rattle.rule.specs.Layout.{positions_at, plus, minus, view, sound_book, open_of, trade_of, notice_of, run_of, close_of}
+use Rattle.rule.specs.Entries.{MatchEntry, LineEntry, match_size, line_size, match_of, line_of}
+use Rattle.rule.specs.Calls.{Reply, accepted, counts, refused, most_matches, most_lines}
+use Rattle.rule.specs.Layout.{position_cell, plus, minus, view, sound_book, open_of, trade_of, notice_of, run_of, close_of}
 
 -- ---- demand 1: every call, whatever it is given, answers by the check table, and a refused one changes nothing
 
@@ -45,34 +47,6 @@ pub record Demand1 : Type 0 where
       (r.0 ≡ accepted) ⊎ RefusedWith (5 ∷ 16 ∷ 15 ∷ []) (receipts, pairs) r
 
 -- ---- the lists that a run hands out
-
-pub record MatchEntry : Type 0 where
-  pub basket : ℕ
-  pub deliverer : ℕ
-  pub receiver : ℕ
-  pub matched : ℕ
-  pub covered : ℕ
-  pub forced : ℕ
-  pub forced_lots : ℕ
-
-pub record LineEntry : Type 0 where
-  pub match : ℕ
-  pub issue : ℕ
-  pub lots : ℕ
-
-abbrev pub match_of : List ℕ → MatchEntry
-match_of l = record {
-  basket = get_or l 0 0;
-  deliverer = get_or l 1 0;
-  receiver = get_or l 2 0;
-  matched = get_or l 3 0;
-  covered = get_or l 4 0;
-  forced = get_or l 5 0;
-  forced_lots = get_or l 6 0;
-}
-
-abbrev pub line_of : List ℕ → LineEntry
-line_of l = record { match = get_or l 0 0; issue = get_or l 1 0; lots = get_or l 2 0 }
 
 -- "the entries within the counts that accepted calls returned, as written then"; no other reply has entries
 unfoldable pub matches_of : Reply → List ℕ → List MatchEntry
@@ -109,11 +83,11 @@ forced_by d i matches = total (λ m. pick (eqb m.deliverer d && eqb m.forced i) 
 abbrev pub Words : List ℕ → Type 0
 Words b = (j : ℕ) → get_or b j 0 < 18446744073709551616
 
--- the allocable quantity, of an issue of these terms: "In run 1 it is the smaller of the notified lots and the scheduled receipt, and 0 for
+-- the allocable quantity, of an issue of these marks: "In run 1 it is the smaller of the notified lots and the scheduled receipt, and 0 for
 -- an issue redeemed on the following day. In runs 2 and 3 it is the notified lots, and 0 for an issue with either mark"
-unfoldable pub quantity : ℕ → Terms → ℕ → ℕ → ℕ
-quantity runs_done t notified scheduled =
-    pick (eqb runs_done 0) (pick (ltb 0 t.redeemed) 0 (min notified scheduled)) (pick (ltb 0 (t.redeemed + t.interest)) 0 notified)
+unfoldable pub quantity : ℕ → Marks → ℕ → ℕ → ℕ
+quantity runs_done marks notified scheduled =
+    pick (eqb runs_done 0) (pick (ltb 0 marks.redeemed) 0 (min notified scheduled)) (pick (ltb 0 (marks.redeemed + marks.interest)) 0 notified)
 
 -- lots of issue i that match j's deliverer used in the matches before it: "Lots used earlier in the same run are gone; forced lots never
 -- count as used"
@@ -128,9 +102,8 @@ usable_in y matches lines j =
     let m : MatchEntry = get_or matches j no_match_entry in
     let d : ℕ = m.deliverer in
     table y.given.issues (λ i.
-    let t : Terms = get_or y.given.terms i no_terms in
-    pick (within m.basket t)
-    (quantity y.state.runs t (cell y.state.notices d i) (cell y.given.receipts d i) - used_before matches lines j i) 0)
+    pick (within m.basket (get_or y.given.terms i no_terms))
+    (quantity y.state.runs (get_or y.given.marks i no_marks) (cell y.state.notices d i) (cell y.given.receipts d i) - used_before matches lines j i) 0)
 
 -- of the matched yen these are covered, and the rest is the shortage "rounded up to 10,000,000 yen, at most the amount": as few times
 -- 10,000,000 yen as make it up; `-` stops at 0
@@ -309,7 +282,7 @@ notified events p i = foldl (notified_after p i) 0 events
 
 -- "The allocable quantity follows from these and the opening data by the rule above, before any lot is used in that run"
 unfoldable pub allocable_then : Given → List Event → ℕ → ℕ → ℕ
-allocable_then g before d i = quantity (runs_in before) (get_or g.terms i no_terms) (notified before d i) (cell g.receipts d i)
+allocable_then g before d i = quantity (runs_in before) (get_or g.marks i no_marks) (notified before d i) (cell g.receipts d i)
 
 -- ---- demand 3: one claim about a whole list of calls
 
@@ -325,7 +298,7 @@ pub record EventHolds (g : Given) (before : List Event) (e : Event) : Type 0 whe
 -- "Of all this only the position standing is read from the book": participant p's in basket k, at its place. It is `plus` of it less `minus`
 -- of it
 abbrev pub standing : List ℕ → ℕ → ℕ → ℕ
-standing b k p = get_or b (positions_at + 12 * k + p) 0
+standing b k p = get_or b (position_cell k p) 0
 
 -- of a day that was opened with g
 pub record HistoryHolds (g : Given) (h : History) : Type 0 where

@@ -4,14 +4,16 @@ use Rattle.lists.specs.Tables.{up_to, table, zeros, zero_rows, row, cell, put}
 use Rattle.lists.specs.Folds.{foldl}
 use Rattle.lists.specs.Parts.{grid}
 use Rattle.rule.specs.Value.{Terms}
+use Rattle.rule.specs.Allocable.{Marks}
 
--- what opening brings: sizes, codes, terms, scheduled receipts by participant and issue, and yesterday's pair marks by basket,
+-- what opening brings: sizes, codes, terms and marks, scheduled receipts by participant and issue, and yesterday's pair marks by basket,
 -- deliverer and receiver
 pub record Given : Type 0 where
   pub participants : ℕ
   pub issues : ℕ
   pub codes : List (List ℕ)
   pub terms : List Terms
+  pub marks : List Marks
   pub receipts : List (List ℕ)
   pub pairs : List (List (List ℕ))
 
@@ -43,17 +45,44 @@ mark t k d r = cell (row t k) d r
 -- ---- opening
 
 -- "sizes first (participants, issues), then two parallel arrays, codes and terms .. Then come scheduled receipts .. and pair marks": a code
--- is 12 bytes, terms are six numbers
+-- is 12 bytes, terms are six numbers, the marks last
+abbrev pub code_size : ℕ
+code_size = 12
+
+abbrev pub term_size : ℕ
+term_size = 6
+
+abbrev pub kind_at : ℕ
+kind_at = 0
+
+abbrev pub price_at : ℕ
+price_at = 1
+
+abbrev pub coupon_at : ℕ
+coupon_at = 2
+
+abbrev pub days_at : ℕ
+days_at = 3
+
+abbrev pub redeemed_at : ℕ
+redeemed_at = 4
+
+abbrev pub interest_at : ℕ
+interest_at = 5
+
 abbrev pub terms_of : List ℕ → Terms
-terms_of l =
-    record { kind = get_or l 0 0; price = get_or l 1 0; coupon = get_or l 2 0; days = get_or l 3 0; redeemed = get_or l 4 0; interest = get_or l 5 0 }
+terms_of l = record { kind = get_or l kind_at 0; price = get_or l price_at 0; coupon = get_or l coupon_at 0; days = get_or l days_at 0 }
+
+abbrev pub marks_of : List ℕ → Marks
+marks_of l = record { redeemed = get_or l redeemed_at 0; interest = get_or l interest_at 0 }
 
 unfoldable pub given_of : ℕ → ℕ → List ℕ → List ℕ → List ℕ → List ℕ → Given
 given_of n m codes terms receipts pairs = record {
   participants = n;
   issues = m;
-  codes = grid codes 0 12 m 12;
-  terms = map terms_of (grid terms 0 6 m 6);
+  codes = grid codes 0 code_size m code_size;
+  terms = map terms_of (grid terms 0 term_size m term_size);
+  marks = map marks_of (grid terms 0 term_size m term_size);
   receipts = grid receipts 0 m n m;
   pairs = table baskets (λ k. grid pairs (n * n * k) n n n);
 }
@@ -81,28 +110,7 @@ opened g =
 
 -- position (k, p) becomes a less b
 abbrev pub with_position : State → ℕ → ℕ → ℕ → ℕ → State
-with_position s k p a b = record {
-  runs = s.runs;
-  trades = s.trades;
-  owed = put s.owed k p (a - b);
-  due = put s.due k p (b - a);
-  notices = s.notices;
-  today = s.today;
-  delivered = s.delivered;
-  received = s.received;
-}
-
-abbrev pub with_trades : State → ℕ → State
-with_trades s n = record {
-  runs = s.runs;
-  trades = n;
-  owed = s.owed;
-  due = s.due;
-  notices = s.notices;
-  today = s.today;
-  delivered = s.delivered;
-  received = s.received;
-}
+with_position s k p a b = record s { owed = put s.owed k p (a - b); due = put s.due k p (b - a) }
 
 -- "A trade adds its yen to the seller's position in a basket and takes them from the buyer's"
 unfoldable pub traded : Day → ℕ → ℕ → ℕ → ℕ → Day
@@ -110,21 +118,9 @@ traded y seller buyer k yen =
     let s : State = y.state in
     let sold : State = with_position s k seller (cell s.owed k seller + yen) (cell s.due k seller) in
     let bought : State = with_position sold k buyer (cell sold.owed k buyer) (cell sold.due k buyer + yen) in
-    record { given = y.given; state = with_trades bought (s.trades + 1) }
+    record y { state = record bought { trades = s.trades + 1 } }
 
 -- ---- notice
-
-abbrev pub with_notices : State → List (List ℕ) → State
-with_notices s notices = record {
-  runs = s.runs;
-  trades = s.trades;
-  owed = s.owed;
-  due = s.due;
-  notices = notices;
-  today = s.today;
-  delivered = s.delivered;
-  received = s.received;
-}
 
 -- m cells: each entry's lots at its issue, "unnamed issues counting 0"
 unfoldable pub notice_row : ℕ → List ℕ → List ℕ → List ℕ
@@ -133,4 +129,4 @@ notice_row m issues lots = foldl (λ r j. set r (get_or issues j 0) (get_or lots
 -- "A notice replaces its sender's earlier one for the coming run"
 unfoldable pub noticed : Day → ℕ → List ℕ → List ℕ → Day
 noticed y p issues lots =
-    record { given = y.given; state = with_notices y.state (set y.state.notices p (notice_row y.given.issues issues lots)) }
+    record y { state = record y.state { notices = set y.state.notices p (notice_row y.given.issues issues lots) } }

@@ -5,41 +5,90 @@ use Rattle.lists.specs.Tests.{pick, first}
 use Rattle.lists.specs.Tables.{table, zeros, row, cell}
 use Rattle.lists.specs.Folds.{joined}
 use Rattle.lists.specs.Parts.{grid, over, rows_at, written}
-use Rattle.rule.specs.Value.{Terms}
-use Rattle.rule.specs.Day.{Given, State, Day, baskets, terms_of, given_of, opened, traded, noticed}
+use Rattle.rule.specs.Value.{Terms, no_terms}
+use Rattle.rule.specs.Allocable.{Marks, no_marks}
+use Rattle.rule.specs.Day.{Given, State, Day, baskets, code_size, term_size, terms_of, marks_of, given_of, opened, traded, noticed}
 use Rattle.rule.specs.Run.{Allocation, allocations, ran, match_list, line_list}
 use Rattle.rule.specs.Sound.{sound}
 use Rattle.rule.specs.Calls.{Reply, accepted, answer, open_checks, refusal, trade_checks, notice_checks, run_checks, run_reply, close_checks, tomorrow_receipts, tomorrow_pairs}
 
--- ---- offsets: each is the last plus a size. Rows are as far apart as in the largest day, of 12 participants and 32 issues
+-- ---- offsets: each is the last plus a size. Rows are as far apart as in the largest day
 
--- participants, issues, runs done and trades accepted stand in the cells 0 to 3
+abbrev pub most_participants : ℕ
+most_participants = 12
+
+abbrev pub most_issues : ℕ
+most_issues = 32
+
+-- the cells of a table by participant and issue, and of a basket's pair marks
+abbrev pub lots_size : ℕ
+lots_size = most_issues * most_participants
+
+abbrev pub square : ℕ
+square = most_participants * most_participants
+
+abbrev pub participants_at : ℕ
+participants_at = 0
+
+abbrev pub issues_at : ℕ
+issues_at = 1
+
+abbrev pub runs_at : ℕ
+runs_at = 2
+
+abbrev pub trades_at : ℕ
+trades_at = 3
+
 abbrev pub codes_at : ℕ
 codes_at = 4
 
 abbrev pub terms_at : ℕ
-terms_at = codes_at + 12 * 32
+terms_at = codes_at + code_size * most_issues
 
 abbrev pub receipts_at : ℕ
-receipts_at = terms_at + 6 * 32
+receipts_at = terms_at + term_size * most_issues
 
 abbrev pub pairs_at : ℕ
-pairs_at = receipts_at + 32 * 12
+pairs_at = receipts_at + lots_size
 
 abbrev pub positions_at : ℕ
-positions_at = pairs_at + 144 * 7
+positions_at = pairs_at + square * baskets
 
 abbrev pub notices_at : ℕ
-notices_at = positions_at + 12 * 7
+notices_at = positions_at + most_participants * baskets
 
 abbrev pub today_at : ℕ
-today_at = notices_at + 32 * 12
+today_at = notices_at + lots_size
 
 abbrev pub tally_at : ℕ
-tally_at = today_at + 144 * 7
+tally_at = today_at + square * baskets
 
 abbrev pub book_length : ℕ
-book_length = tally_at + 32 * 12
+book_length = tally_at + lots_size
+
+-- ---- places: of an issue's terms; in a table by participant and issue, which begins at some cell; of a position; of a pair's mark in
+-- yesterday's or today's
+
+abbrev pub issue_terms : ℕ → ℕ
+issue_terms i = terms_at + term_size * i
+
+abbrev pub lots_row : ℕ → ℕ → ℕ
+lots_row at p = at + most_issues * p
+
+abbrev pub lots_cell : ℕ → ℕ → ℕ → ℕ
+lots_cell at p i = lots_row at p + i
+
+abbrev pub position_row : ℕ → ℕ
+position_row k = positions_at + most_participants * k
+
+abbrev pub position_cell : ℕ → ℕ → ℕ
+position_cell k p = position_row k + p
+
+abbrev pub mark_square : ℕ → ℕ → ℕ
+mark_square at k = at + square * k
+
+abbrev pub mark_cell : ℕ → ℕ → ℕ → ℕ → ℕ
+mark_cell at k d r = mark_square at k + most_participants * d + r
 
 -- ---- a signed number is kept in its cell as its two's complement: a below 2^63 is a, less b is 2^64 - b
 
@@ -58,31 +107,33 @@ signed_rows out back = table (length out) (λ p. table (length (row out p)) (λ 
 
 -- ---- the book read as a day
 
--- pair marks: for each basket a table of 12 rows of 12
+-- pair marks: for each basket a table of as many rows as there are participants at most
 abbrev pub cube : List ℕ → ℕ → ℕ → List (List (List ℕ))
-cube b at n = table baskets (λ k. grid b (at + 144 * k) 12 n n)
+cube b at n = table baskets (λ k. grid b (mark_square at k) most_participants n n)
 
 unfoldable pub view : List ℕ → Day
 view b =
-    let n : ℕ = get_or b 0 0 in
-    let m : ℕ = get_or b 1 0 in
-    let positions : List (List ℕ) = grid b positions_at 12 baskets n in
-    let tally : List (List ℕ) = grid b tally_at 32 n m in
+    let n : ℕ = get_or b participants_at 0 in
+    let m : ℕ = get_or b issues_at 0 in
+    let positions : List (List ℕ) = grid b positions_at most_participants baskets n in
+    let terms : List (List ℕ) = grid b terms_at term_size m term_size in
+    let tally : List (List ℕ) = grid b tally_at most_issues n m in
     record {
       given = record {
         participants = n;
         issues = m;
-        codes = grid b codes_at 12 m 12;
-        terms = map terms_of (grid b terms_at 6 m 6);
-        receipts = grid b receipts_at 32 n m;
+        codes = grid b codes_at code_size m code_size;
+        terms = map terms_of terms;
+        marks = map marks_of terms;
+        receipts = grid b receipts_at most_issues n m;
         pairs = cube b pairs_at n;
       };
       state = record {
-        runs = get_or b 2 0;
-        trades = get_or b 3 0;
+        runs = get_or b runs_at 0;
+        trades = get_or b trades_at 0;
         owed = map (map plus) positions;
         due = map (map minus) positions;
-        notices = grid b notices_at 32 n m;
+        notices = grid b notices_at most_issues n m;
         today = cube b today_at n;
         delivered = map (map plus) tally;
         received = map (map minus) tally;
@@ -91,27 +142,30 @@ view b =
 
 -- ---- a day written into the book: places beyond the day's sizes stay
 
-abbrev pub terms_row : Terms → List ℕ
-terms_row t = t.kind ∷ t.price ∷ t.coupon ∷ t.days ∷ t.redeemed ∷ t.interest ∷ []
+abbrev pub terms_row : Terms → Marks → List ℕ
+terms_row t m = t.kind ∷ t.price ∷ t.coupon ∷ t.days ∷ m.redeemed ∷ m.interest ∷ []
+
+abbrev pub terms_rows : Given → List (List ℕ)
+terms_rows g = table g.issues (λ i. terms_row (get_or g.terms i no_terms) (get_or g.marks i no_marks))
 
 abbrev pub cube_rows : ℕ → List (List (List ℕ)) → List (ℕ × List ℕ)
-cube_rows at marks = joined (table baskets (λ k. rows_at (at + 144 * k) 12 (row marks k)))
+cube_rows at marks = joined (table baskets (λ k. rows_at (mark_square at k) most_participants (row marks k)))
 
 -- the tables of a day, rows with their places; the sizes and counts are one row
 abbrev pub given_tables : Given → List (List (ℕ × List ℕ))
 given_tables g =
-    rows_at codes_at 12 g.codes
-    ∷ rows_at terms_at 6 (map terms_row g.terms)
-    ∷ rows_at receipts_at 32 g.receipts
+    rows_at codes_at code_size g.codes
+    ∷ rows_at terms_at term_size (terms_rows g)
+    ∷ rows_at receipts_at most_issues g.receipts
     ∷ cube_rows pairs_at g.pairs
     ∷ []
 
 abbrev pub state_tables : State → List (List (ℕ × List ℕ))
 state_tables s =
-    rows_at positions_at 12 (signed_rows s.owed s.due)
-    ∷ rows_at notices_at 32 s.notices
+    rows_at positions_at most_participants (signed_rows s.owed s.due)
+    ∷ rows_at notices_at most_issues s.notices
     ∷ cube_rows today_at s.today
-    ∷ rows_at tally_at 32 (signed_rows s.delivered s.received)
+    ∷ rows_at tally_at most_issues (signed_rows s.delivered s.received)
     ∷ []
 
 abbrev pub tables_of : Day → List (List (ℕ × List ℕ))

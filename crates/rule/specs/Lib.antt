@@ -6,6 +6,7 @@ pub mod Allocable
 pub mod Matching
 pub mod Filling
 pub mod Day
+pub mod Entries
 pub mod Run
 pub mod Sound
 pub mod Calls

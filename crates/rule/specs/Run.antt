@@ -6,10 +6,11 @@ use Rattle.lists.specs.Folds.{foldl, total, keep}
 use Rattle.lists.specs.Order.{ranked}
 use Rattle.rule.specs.Value.{Terms, no_terms}
 use Rattle.rule.specs.Baskets.{within}
-use Rattle.rule.specs.Allocable.{allocable}
+use Rattle.rule.specs.Allocable.{no_marks, allocable}
 use Rattle.rule.specs.Matching.{Match, plan}
 use Rattle.rule.specs.Filling.{Filled, filled, forced_issue, all_lots}
 use Rattle.rule.specs.Day.{Given, State, Day, baskets, mark}
+use Rattle.rule.specs.Entries.{match_row, line_row}
 
 -- a match of this run with what it was filled with. All that a run hands out and leaves is read off the list of these
 pub record Allocation : Type 0 where
@@ -27,7 +28,7 @@ used_table g done = table g.participants (λ d. table g.issues (λ i. used done 
 -- participant d's allocable quantity of issue i in the coming run
 unfoldable pub allocable_of : Day → ℕ → ℕ → ℕ
 allocable_of y d i =
-    allocable y.state.runs (get_or y.given.terms i no_terms) (cell y.state.notices d i) (cell y.given.receipts d i)
+    allocable y.state.runs (get_or y.given.marks i no_marks) (cell y.state.notices d i) (cell y.given.receipts d i)
 
 -- "Lots used earlier in the same run are gone", those of earlier baskets (before) and of this one (done). "Outside the basket nothing may
 -- be used"
@@ -51,7 +52,7 @@ allocate y k before done m =
       basket = k;
       match = m;
       filled = filled y.state.runs m.preferential ts (usable y k before done d) (issue_order y before m.preferential d)
-          (forced_issue k ts (row y.state.notices d)) m.amount;
+          (forced_issue k ts y.given.marks (row y.state.notices d)) m.amount;
     }
 
 unfoldable pub basket_plan : Day → List ℕ → ℕ → List Match
@@ -67,15 +68,22 @@ allocations y draw = foldl (λ done k. done ++ basket y draw (used_table y.given
 
 -- ---- the two lists
 
--- "A match is basket, deliverer, receiver, matched yen, covered yen, forced issue, forced lots (both 0 if none), in the order filled"
+-- a match of the list, "in the order filled"
 unfoldable pub match_entry : Allocation → List ℕ
-match_entry a =
-    a.basket ∷ a.match.deliverer ∷ a.match.receiver ∷ a.match.amount ∷ a.filled.covered ∷ a.filled.forced ∷ a.filled.forced_lots ∷ []
+match_entry a = match_row (record {
+  basket = a.basket;
+  deliverer = a.match.deliverer;
+  receiver = a.match.receiver;
+  matched = a.match.amount;
+  covered = a.filled.covered;
+  forced = a.filled.forced;
+  forced_lots = a.filled.forced_lots;
+})
 
--- "A line is match number (from 0 in this run), issue, lots with forced ones; issues rise within a match"
+-- a match's lines: "issues rise within a match"
 unfoldable pub lines_of : ℕ → Allocation → List (List ℕ)
 lines_of number a =
-    map (λ i. number ∷ i ∷ all_lots a.filled i ∷ []) (keep (λ i. ltb 0 (all_lots a.filled i)) (up_to (length a.filled.lots)))
+    map (λ i. line_row (record { match = number; issue = i; lots = all_lots a.filled i })) (keep (λ i. ltb 0 (all_lots a.filled i)) (up_to (length a.filled.lots)))
 
 unfoldable pub lines_from : ℕ → List Allocation → List (List ℕ)
 lines_from number [] = []

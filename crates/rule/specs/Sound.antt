@@ -5,6 +5,7 @@ use Rattle.lists.specs.Tables.{row, cell}
 use Rattle.lists.specs.Folds.{sum}
 use Rattle.rule.specs.Value.{Terms, no_terms}
 use Rattle.rule.specs.Isin.{codes_right}
+use Rattle.rule.specs.Allocable.{Marks, no_marks}
 use Rattle.rule.specs.Filling.{eligible}
 use Rattle.rule.specs.Day.{Given, State, Day, baskets, mark}
 
@@ -12,14 +13,17 @@ use Rattle.rule.specs.Day.{Given, State, Day, baskets, mark}
 unfoldable pub sizes_fit : ℕ → ℕ → Bool
 sizes_fit n m = leb 2 n && leb n 12 && leb 1 m && leb m 32
 
--- "kind, price (.. 1,000 to 30,000), coupon (.. 0 to 20,000), days of accrued interest (0 to 366), and two marks, 0 or 1"
+-- "kind, price (.. 1,000 to 30,000), coupon (.. 0 to 20,000), days of accrued interest (0 to 366)"
 unfoldable pub terms_fit : Terms → Bool
 terms_fit t =
     leb t.kind 6 && leb 1000 t.price && leb t.price 30000 && leb t.coupon 20000 && leb t.days 366
-    && leb t.redeemed 1 && leb t.interest 1
 
-unfoldable pub all_terms_fit : ℕ → List Terms → Bool
-all_terms_fit m ts = all_below m (λ i. terms_fit (get_or ts i no_terms))
+-- ".. and two marks, 0 or 1"
+unfoldable pub marks_fit : Marks → Bool
+marks_fit m = leb m.redeemed 1 && leb m.interest 1
+
+unfoldable pub all_terms_fit : ℕ → List Terms → List Marks → Bool
+all_terms_fit m ts ms = all_below m (λ i. terms_fit (get_or ts i no_terms) && marks_fit (get_or ms i no_marks))
 
 -- every cell of n rows of m is at most a bound
 unfoldable pub at_most : ℕ → ℕ → ℕ → List (List ℕ) → Bool
@@ -30,13 +34,13 @@ unfoldable pub receipts_fit : ℕ → ℕ → List (List ℕ) → Bool
 receipts_fit n m t = at_most 1000000000000 n m t
 
 -- "pair marks (0 or 1 by basket, deliverer, receiver; never a participant with itself)"
-unfoldable pub marks_fit : ℕ → List (List (List ℕ)) → Bool
-marks_fit n t =
+unfoldable pub pairs_fit : ℕ → List (List (List ℕ)) → Bool
+pairs_fit n t =
     all_below baskets (λ k. at_most 1 n n (row t k)) && all_below baskets (λ k. all_below n (λ p. eqb (mark t k p p) 0))
 
 -- the basket has an unmarked issue
-unfoldable pub tradable : ℕ → List Terms → Bool
-tradable k ts = ltb 0 (length (eligible k ts))
+unfoldable pub tradable : ℕ → List Terms → List Marks → Bool
+tradable k ts ms = ltb 0 (length (eligible k ts ms))
 
 -- the limits of positions in yen, and of notified lots; a tally's for each run done; and of trades
 abbrev pub position_limit : ℕ
@@ -62,7 +66,7 @@ sound y =
     leb s.runs 3
     ∷ sizes_fit n m
     ∷ codes_right g.codes
-    ∷ all_terms_fit m g.terms
+    ∷ all_terms_fit m g.terms g.marks
     ∷ receipts_fit n m g.receipts
     ∷ at_most notice_limit n m s.notices
     ∷ leb s.trades trade_limit
@@ -70,13 +74,13 @@ sound y =
     ∷ at_most position_limit baskets n s.owed
     ∷ at_most position_limit baskets n s.due
     ∷ all_below baskets (λ k. eqb (sum (row s.owed k)) (sum (row s.due k)))
-    ∷ all_below baskets (λ k. eqb (sum (row s.owed k) + sum (row s.due k)) 0 || tradable k g.terms)
+    ∷ all_below baskets (λ k. eqb (sum (row s.owed k) + sum (row s.due k)) 0 || tradable k g.terms g.marks)
     -- "a tally is within 10^11 × runs done"
     ∷ at_most (tally_limit * s.runs) n m s.delivered
     ∷ at_most (tally_limit * s.runs) n m s.received
     -- "pair marks are 0 or 1 with none on oneself", yesterday's and today's
-    ∷ marks_fit n g.pairs
-    ∷ marks_fit n s.today
+    ∷ pairs_fit n g.pairs
+    ∷ pairs_fit n s.today
     -- "after three runs positions and notices are zero"
     ∷ (ltb s.runs 3 || (at_most 0 baskets n s.owed && at_most 0 baskets n s.due && at_most 0 n m s.notices))
     ∷ [])

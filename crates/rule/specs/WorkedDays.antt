@@ -5,9 +5,10 @@ use Rattle.lists.specs.Tables.{zeros}
 use Rattle.rule.specs.Value.{value}
 use Rattle.rule.specs.Isin.{check_digit}
 use Rattle.rule.specs.Day.{baskets, terms_of}
-use Rattle.rule.specs.Calls.{Reply, accepted, counts, refused, match_size, line_size, most_matches, most_lines}
+use Rattle.rule.specs.Calls.{Reply, accepted, counts, refused, most_matches, most_lines}
 use Rattle.rule.specs.Layout.{book_length, open_of, run_of}
-use Rattle.rule.specs.Claims.{MatchEntry, LineEntry, match_of, line_of, matches_of, lines_of, Call, trade, notice, run, history}
+use Rattle.rule.specs.Entries.{MatchEntry, LineEntry, match_of, line_of, match_size, line_size}
+use Rattle.rule.specs.Claims.{matches_of, lines_of, Call, trade, notice, run, history}
 
 -- "issues 0 and 1 are JP0000000018 and JP0000000026"
 abbrev pub code0 : List ℕ

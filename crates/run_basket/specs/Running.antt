@@ -7,7 +7,8 @@ use Rattle.lists.specs.Folds.{foldl, joined}
 use Rattle.lists.specs.Parts.{over}
 use Rattle.rule.specs.Day.{Day, mark}
 use Rattle.rule.specs.Run.{Allocation, used, used_table, allocate, basket_plan, basket, covered_from, covered_to, covered_pair, lots_from, lots_to, match_list, line_list}
-use Rattle.rule.specs.Calls.{match_size, line_size, most_matches, most_lines}
+use Rattle.rule.specs.Entries.{match_size, line_size}
+use Rattle.rule.specs.Calls.{most_matches, most_lines}
 use Rattle.rule.specs.Layout.{book_length, view, signed}
 use Rattle.rule.proofs.BookLaws.{SoundBook}
 use Rattle.rule.proofs.DrawLaws.{EachOnce}

@@ -10,7 +10,7 @@ use Rattle.lists.proofs.TestLaws.{and_no, and_left, and_right, all_of, all-at, a
 use Rattle.lists.proofs.TableLaws.{get_or-table}
 use Rattle.lists.proofs.PartLaws.{grid-get}
 use Rattle.rule.specs.Day.{baskets, terms_of}
-use Rattle.rule.specs.Sound.{sound, sizes_fit, all_terms_fit, receipts_fit, at_most, marks_fit, tradable, position_limit, notice_limit, tally_limit, trade_limit}
+use Rattle.rule.specs.Sound.{sound, sizes_fit, all_terms_fit, receipts_fit, at_most, pairs_fit, tradable, position_limit, notice_limit, tally_limit, trade_limit}
 use Rattle.rule.specs.Layout.{book_length, terms_at, receipts_at, pairs_at, positions_at, notices_at, today_at, tally_at, plus, minus, cube, view, book_fits, sound_book}
 use Rattle.ranges.specs.Ranges.{row_passes}
 use Rattle.sound.specs.Sized.{Sized, book_terms, is_within, while_runs, basket_fits, positions_fit, tally_fits, codes_fit, given_fits, state_within, state_fits}
@@ -167,7 +167,7 @@ module _ (b : List ℕ) where
       ∙ positions-are (while_runs runs position_limit)
 
   abbrev state_of : Bool → Bool → Bool → Bool
-  state_of u v w = holds (leb runs 3 ∷ leb (get_or b 3 0) trade_limit ∷ u ∷ v ∷ w ∷ marks_fit n (cube b today_at n) ∷ [])
+  state_of u v w = holds (leb runs 3 ∷ leb (get_or b 3 0) trade_limit ∷ u ∷ v ∷ w ∷ pairs_fit n (cube b today_at n) ∷ [])
 
   state-there : state_of (still notice_limit n m notices) standing tallied ≡ state_fits b
   unfolding state_fits state_within
@@ -184,12 +184,12 @@ module _ (b : List ℕ) where
 
 -- the tests of a book whose day has n participants and m issues
 module _ (b : List ℕ) (n m : ℕ) (e : n ≡ get_or b 0 0) (f : m ≡ get_or b 1 0) where
-  pub given_is : given_fits b ≡ (codes_fit b && (all_terms_fit m (map terms_of (grid b terms_at 6 m 6)) && (at_most 1000000000000 n m (grid b receipts_at 32 n m) && marks_fit n (cube b pairs_at n))))
+  pub given_is : given_fits b ≡ (codes_fit b && (all_terms_fit m (map terms_of (grid b terms_at 6 m 6)) && (at_most 1000000000000 n m (grid b receipts_at 32 n m) && pairs_fit n (cube b pairs_at n))))
   unfolding given_fits receipts_fit holds
   given_is = rw (e, f) (simp and-true)
 
   pub state_is : (runs lots yen : ℕ) → runs ≡ get_or b 2 0 → lots ≡ while_runs runs notice_limit → yen ≡ while_runs runs position_limit
-      → state_fits b ≡ (leb runs 3 && (leb (get_or b 3 0) trade_limit && (at_most lots n m (grid b notices_at 32 n m) && (positions_fit b yen && (tally_fits b (tally_limit * runs) && marks_fit n (cube b today_at n))))))
+      → state_fits b ≡ (leb runs 3 && (leb (get_or b 3 0) trade_limit && (at_most lots n m (grid b notices_at 32 n m) && (positions_fit b yen && (tally_fits b (tally_limit * runs) && pairs_fit n (cube b today_at n))))))
   unfolding state_fits state_within holds
   state_is runs lots yen r l y = rw (e, f, l, y, r) (simp and-true)
 

@@ -8,7 +8,7 @@ use Rattle.rule.specs.Baskets.{within}
 use Rattle.rule.specs.Allocable.{unmarked}
 use Rattle.rule.specs.Isin.{codes_right}
 use Rattle.rule.specs.Day.{baskets, terms_of}
-use Rattle.rule.specs.Sound.{all_terms_fit, receipts_fit, at_most, marks_fit, tradable, position_limit, notice_limit, tally_limit, trade_limit}
+use Rattle.rule.specs.Sound.{all_terms_fit, receipts_fit, at_most, pairs_fit, tradable, position_limit, notice_limit, tally_limit, trade_limit}
 use Rattle.rule.specs.Layout.{book_length, codes_at, terms_at, receipts_at, pairs_at, positions_at, notices_at, today_at, tally_at, plus, minus, cube}
 use Rattle.ranges.specs.Ranges.{row_passes}
 
@@ -58,7 +58,7 @@ given_fits b =
     codes_fit b
     ∷ all_terms_fit m (book_terms b)
     ∷ receipts_fit n m (grid b receipts_at 32 n m)
-    ∷ marks_fit n (cube b pairs_at n)
+    ∷ pairs_fit n (cube b pairs_at n)
     ∷ [])
 
 -- what the other calls change, with the limits of notices and of positions
@@ -73,7 +73,7 @@ state_within b lots yen =
     ∷ at_most lots n m (grid b notices_at 32 n m)
     ∷ positions_fit b yen
     ∷ tally_fits b (tally_limit * runs)
-    ∷ marks_fit n (cube b today_at n)
+    ∷ pairs_fit n (cube b today_at n)
     ∷ [])
 
 unfoldable pub state_fits : List ℕ → Bool

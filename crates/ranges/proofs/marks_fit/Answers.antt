@@ -1,10 +1,10 @@
--- `ranges::marks_fit` meets its contract. Assumes nothing.
+-- `ranges::pairs_fit` meets its contract. Assumes nothing.
 use Rattle.std.proofs.Common.{◌+◌, ◌-◌, ◌*◌, take, drop, refl, ◌∙◌, rules}
 use Rattle.std.proofs.iter.Serving.{serving}
 use Rattle.ranges.specs.Ranges.{square_fits}
 use Rattle.ranges.proofs.ScanLaws.{all-below}
 use Rattle.ranges.proofs.RangeLaws.{marks-lent, square-lent, within-seven}
-use Rattle.ranges.proofs.marks_fit.Goals as goal
+use Rattle.ranges.proofs.pairs_fit.Goals as goal
 
 pub all-requires-clause-callable : goal.all-requires-clause-callable
 all-requires-clause-callable c = grind (serving, within-seven, square-lent)

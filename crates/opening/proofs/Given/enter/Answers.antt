@@ -18,13 +18,13 @@ returns-then-not-rows_at_most c =
     (said-yes _ _ (terms-whole l c.terms_fit.ensures) c.if-not-terms_fit.false)
     (said-no _ _ c.rows_at_most.ensures c.if-not-rows_at_most.true)
 
-pub returns-then-not-marks_fit : goal.returns-then-not-marks_fit
-returns-then-not-marks_fit c =
+pub returns-then-not-pairs_fit : goal.returns-then-not-pairs_fit
+returns-then-not-pairs_fit c =
     let l = c.args.self.now.lengths in
     wrong-pair _ _ _ _ _ _ _ (said-yes _ _ (codes-whole l c.codes_right.ensures) c.if-not-codes_right.false)
     (said-yes _ _ (terms-whole l c.terms_fit.ensures) c.if-not-terms_fit.false)
     (said-yes _ _ c.rows_at_most.ensures c.if-not-rows_at_most.false)
-    (said-no _ _ c.marks_fit.ensures c.if-not-marks_fit.true)
+    (said-no _ _ c.pairs_fit.ensures c.if-not-pairs_fit.true)
 
 pub returns : goal.returns
 returns c =
@@ -32,4 +32,4 @@ returns c =
     all_right _ _ _ _ _ _ _ (said-yes _ _ (codes-whole l c.codes_right.ensures) c.if-not-codes_right.false)
     (said-yes _ _ (terms-whole l c.terms_fit.ensures) c.if-not-terms_fit.false)
     (said-yes _ _ c.rows_at_most.ensures c.if-not-rows_at_most.false)
-    l (said-yes _ _ c.marks_fit.ensures c.if-not-marks_fit.false) _ c.write.ensures
+    l (said-yes _ _ c.pairs_fit.ensures c.if-not-pairs_fit.false) _ c.write.ensures
