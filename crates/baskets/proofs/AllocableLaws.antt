@@ -9,18 +9,17 @@ use Rattle.std.proofs.lemmas.Bool.Decides.{nat_tests}
 use Rattle.lists.specs.Tests.{pick}
 use Rattle.quantities.specs.declared.Lots.{Lots}
 use Rattle.quantities.specs.contracts.LotsOrd.TheImpl.{cmp-value}
-use Rattle.rule.specs.Value.{Terms}
-use Rattle.rule.specs.Allocable.{unmarked, allocable}
+use Rattle.rule.specs.Allocable.{Marks, unmarked, allocable}
 
-module _ (t : Terms) (runs notified scheduled : ℕ) where
-  pub first_run : runs ≡ 0 → allocable runs t notified scheduled ≡ pick (eqb t.redeemed 0) (min notified scheduled) 0
+module _ (m : Marks) (runs notified scheduled : ℕ) where
+  pub first_run : runs ≡ 0 → allocable runs m notified scheduled ≡ pick (eqb m.redeemed 0) (min notified scheduled) 0
   unfolding allocable
   first_run w = rw w
 
-pub later_run : (t : Terms) (runs notified scheduled : ℕ) → (runs ≡ 0 → ⊥) → allocable runs t notified scheduled ≡ pick (unmarked t) notified 0
+pub later_run : (m : Marks) (runs notified scheduled : ℕ) → (runs ≡ 0 → ⊥) → allocable runs m notified scheduled ≡ pick (unmarked m) notified 0
 unfolding allocable
-later_run t zero notified scheduled w = absurd (w refl)
-later_run t (suc runs) notified scheduled w = refl
+later_run m zero notified scheduled w = absurd (w refl)
+later_run m (suc runs) notified scheduled w = refl
 
 -- `Lots` are ordered as their numbers
 pub smaller : (a b : Lots) → (ord_min cmp-value.it a b).0 ≡ min a.0 b.0

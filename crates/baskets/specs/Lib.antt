@@ -1,2 +1,3 @@
 -- What the contracts of baskets cite besides the rule.
 pub mod Kinds
+pub mod Marked

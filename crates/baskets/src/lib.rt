@@ -4,8 +4,9 @@
 ghost use Rattle.std.specs.Prelude.{◌≡◌, ℕ, ◌&&◌};
 ghost use Rattle.rule.specs.Value.{Terms};
 ghost use Rattle.rule.specs.Baskets.{within};
-ghost use Rattle.rule.specs.Day.{terms_of};
+ghost use Rattle.rule.specs.Day.{terms_of, marks_of};
 ghost use Rattle.baskets.specs.Kinds.{KindsOf};
+ghost use Rattle.baskets.specs.Marked.{rule_marks};
 ghost use Rattle.rule.specs.Allocable.{unmarked, allocable as allocable_of};
 
 use quantities::Lots;
@@ -47,31 +48,49 @@ pub fn is_among(kinds: &[bool; 7], kind: u64) -> bool
     }
 }
 
-// "An issue is unmarked if both are 0". A mark is a number, as it stands in the book: a rule of the project.
-#[tactic(auto, unfolding(rule::specs::Allocable::unmarked))]
-pub fn is_unmarked(redeemed: u64, interest: u64) -> bool
-    ensures { (t : Terms) → t.redeemed ≡ redeemed → t.interest ≡ interest → result ≡ unmarked t }
-{
-    redeemed == 0 && interest == 0
+// "two marks, 0 or 1: redeemed on the following day, interest paid on the following day". A mark is a number, as it stands in the book: a
+// rule of the project.
+#[derive(Clone, Copy)]
+pub struct Marks {
+    redeemed: u64,
+    interest: u64,
 }
 
-// Whether an issue of these terms is of one of a basket's kinds, and unmarked. A loop over issues reads the basket's kinds once.
-pub fn is_eligible(terms: &[u64; 6], kinds: &[bool; 7]) -> bool
-    ensures { (k : ℕ) → KindsOf k kinds.now → result ≡ (within k (terms_of terms.now) && unmarked (terms_of terms.now)) }
+impl Marks {
+    // An issue's. They are read here alone.
+    pub fn of(issue: &layout::Terms) -> Marks
+        ensures { rule_marks result ≡ marks_of issue.now }
+    {
+        let [_, _, _, _, redeemed, interest] = *issue;
+        Marks { redeemed, interest }
+    }
+
+    // "An issue is unmarked if both are 0".
+    #[tactic(auto, unfolding(rule::specs::Allocable::unmarked))]
+    pub fn are_none(self) -> bool
+        ensures { result ≡ unmarked (rule_marks self) }
+    {
+        self.redeemed == 0 && self.interest == 0
+    }
+}
+
+// Whether an issue is of one of a basket's kinds, and unmarked. A loop over issues reads the basket's kinds once.
+pub fn is_eligible(issue: &layout::Terms, kinds: &[bool; 7]) -> bool
+    ensures { (k : ℕ) → KindsOf k kinds.now → result ≡ (within k (terms_of issue.now) && unmarked (marks_of issue.now)) }
 {
-    let [kind, _, _, _, redeemed, interest] = *terms;
-    is_among(kinds, kind) && is_unmarked(redeemed, interest)
+    let [kind, ..] = *issue;
+    is_among(kinds, kind) && Marks::of(issue).are_none()
 }
 
 // "The window decides the allocable quantity": run 1 has one rule, "runs 2 and 3" another. The runs done are a number: a rule of
 // the project.
 #[tactic(auto, using(crate::proofs::AllocableLaws::by_window))]
-pub fn allocable(runs: u64, redeemed: u64, interest: u64, notified: Lots, scheduled: Lots) -> Lots
-    ensures { (t : Terms) → t.redeemed ≡ redeemed → t.interest ≡ interest → result.0 ≡ allocable_of runs t notified.0 scheduled.0 }
+pub fn allocable(runs: u64, marks: Marks, notified: Lots, scheduled: Lots) -> Lots
+    ensures { result.0 ≡ allocable_of runs (rule_marks marks) notified.0 scheduled.0 }
 {
     let (usable, lots) = match runs {
-        0 => (redeemed == 0, notified.min(scheduled)),
-        _ => (is_unmarked(redeemed, interest), notified),
+        0 => (marks.redeemed == 0, notified.min(scheduled)),
+        _ => (marks.are_none(), notified),
     };
     if usable { lots } else { Lots(0) }
 }

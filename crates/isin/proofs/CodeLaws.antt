@@ -4,12 +4,11 @@ use mathlib.Core.Bool.{Bool, true, false, ◌&&◌, ◌||◌, and-true, and-fals
 use mathlib.Core.List.{List, [], ◌∷◌, ◌++◌, reverse, reverse-append}
 use Prim.Native.Nat.{ℕ, zero, suc, ◌≤◌, ◌<◌, ◌+◌, ◌-◌, ◌*◌, ◌/◌, ◌%◌, max}
 use native.Mathlib.Numerals.{add-one}
-use native.Mathlib.Nat.{mul-suc}
 use native.Mathlib.Omega.{arith}
 use native.Mathlib.Decide.{dec_lt, ℕ_discrete}
 use lib.Dec.{leb, ltb, eqb}
-use lib.ListN.{length, get_or, take, drop}
-use lib.Seq.{take-suc, drop-drop, ext_get_or}
+use lib.ListN.{length, get_or, take}
+use lib.Seq.{take-suc, ext_get_or}
 use borrow.Author.Tests.{leb-true, le-leb, lt-leb, lt-ltb, eq-eqb, ne_eqb}
 use Rattle.std.proofs.lemmas.Bool.Decides.{nat_tests}
 use Rattle.std.proofs.lemmas.Cmp.{same_from_slice_cmp}
@@ -18,7 +17,6 @@ use Rattle.std.specs.List.{AllWithin, HoldsAt, IsAllAdjacentAnswer}
 use Rattle.std.specs.Ordering.{nat_cmp, is_lt}
 use Rattle.std.specs.declared.cmp.Ordering.{Ordering}
 use Rattle.std.specs.Cmp.Lexicographic.{slice_cmp}
-use Rattle.std.specs.Simd.{first_chunks}
 use Rattle.std.specs.Prelude.{Some}
 use Rattle.std.specs.declared.ops.RangeInclusive.{RangeInclusive}
 use Rattle.std.specs.Range.{range_inclusive_contains, range_inclusive_start, range_inclusive_end, range_inclusive_exhausted}
@@ -31,6 +29,7 @@ use Rattle.isin.specs.Summing.{Within, sums_of, with_digit, with_capital, with_c
 use Rattle.lists.proofs.TestLaws.{and_left, and_right, and_no, or_right, all-stop, all_of, stop_is, row-stop, row-go}
 use Rattle.lists.proofs.TableLaws.{length-table}
 use Rattle.lists.proofs.PartLaws.{row_at}
+use Rattle.lists.proofs.CutLaws.{cut, cut-count, cut-get}
 
 -- digits and capitals as numbers
 module _ (c : ℕ) where
@@ -224,26 +223,16 @@ module _ (c : List ℕ) where
     japan-second {p} f k = row-go _ _ _ (sym (rw e at q) ∙ f) (ap (eqb (get_or c 1 0)) k) ∙ sym (two l)
 
 -- the codes stand one after the other
-chunk : (n k : ℕ) (xs : List ℕ) (p : ℕ) → p < k → get_or (first_chunks n k xs) p [] ≡ take n (drop (n * p) xs)
-chunk n zero xs p l = absurd (omega arith)
-chunk n (suc k) xs zero l = let e : n * 0 ≡ 0 = omega arith in rw e
-chunk n (suc k) xs (suc p) l =
-    let e : n + n * p ≡ n * suc p = omega (arith, mul-suc n p) in
-    chunk n k (drop n xs) p (omega arith) ∙ ap (take n) (drop-drop (n * p) n xs ∙ ap (λ (o : ℕ). drop o xs) e)
+chunks-are : (cells : List ℕ) → cut 12 cells ≡ grid cells 0 12 (length cells / 12) 12
+chunks-are cells =
+    let k : ℕ = length cells / 12 in
+    let e : length (grid cells 0 12 k 12) ≡ k = length-table k (λ p. block cells (0 + 12 * p) 12) in
+    ext_get_or [] (cut 12 cells) (grid cells 0 12 k 12) (cut-count 12 cells ∙ sym e)
+    (λ p h. let o : p < k = omega (arith, cut-count 12 cells) in cut-get 12 cells p o ∙ sym (row_at cells k 12 p o))
 
-length-chunks : (n k : ℕ) (xs : List ℕ) → length (first_chunks n k xs) ≡ k
-length-chunks n zero xs = refl
-length-chunks n (suc k) xs = ap (λ (j : ℕ). suc j) (length-chunks n k (drop n xs))
-
-chunks-are : (cells : List ℕ) (k : ℕ) → first_chunks 12 k cells ≡ grid cells 0 12 k 12
-chunks-are cells k =
-    let e = length-table k (λ p. block cells (0 + 12 * p) 12) in
-    ext_get_or [] (first_chunks 12 k cells) (grid cells 0 12 k 12) (length-chunks 12 k cells ∙ sym e)
-    (λ p h. let o : p < k = omega (arith, length-chunks 12 k cells) in chunk 12 k cells p o ∙ sym (row_at cells k 12 p o))
-
-pub codes-are : (cells : List ℕ) {cs : List (List ℕ)} → cs ≡ first_chunks 12 (length cells / 12) cells
+pub codes-are : (cells : List ℕ) {cs : List (List ℕ)} → cs ≡ cut 12 cells
     → codes_right cs ≡ codes_right (grid cells 0 12 (length cells / 12) 12)
-codes-are cells e = ap codes_right (e ∙ chunks-are cells (length cells / 12))
+codes-are cells e = ap codes_right (e ∙ chunks-are cells)
 
 -- codes that were tested by the library's methods
 module _ (xs : List (List ℕ)) where

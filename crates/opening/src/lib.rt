@@ -96,7 +96,7 @@ impl<'a> Given<'a> {
             return Err(Refusal::WrongReceiptOrPair);
         }
         let square = self.participants * self.participants;
-        if !ranges::marks_fit(self.pairs, square, self.participants, self.participants) {
+        if !ranges::pairs_fit(self.pairs, square, self.participants, self.participants) {
             return Err(Refusal::WrongReceiptOrPair);
         }
         self.write(book);

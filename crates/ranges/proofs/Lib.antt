@@ -1,4 +1,3 @@
 -- Laws that the proofs of the ranges cite.
 pub mod ScanLaws
-pub mod CutLaws
 pub mod RangeLaws

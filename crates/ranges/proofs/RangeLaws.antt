@@ -1,5 +1,5 @@
 -- The ranges of opening data as tests on cells. Assumes nothing.
-use Rattle.std.proofs.Common.{◌≡◌, ℕ, zero, suc, ◌+◌, ◌-◌, ◌*◌, ◌/◌, ◌<◌, ◌≤◌, Bool, ◌&&◌, eqb, leb, List, [], ◌++◌, map, length, get_or, get_or-take, take, drop, drop-drop, sym, ap, ◌∙◌, ap₂, mul-le-mul_left, mul-zero, mul-suc, arith, length-take, length-drop, length-append}
+use Rattle.std.proofs.Common.{◌≡◌, ℕ, zero, suc, ◌+◌, ◌-◌, ◌*◌, ◌/◌, ◌<◌, ◌≤◌, Bool, ◌&&◌, eqb, leb, List, [], ◌++◌, length, get_or, get_or-take, take, drop, drop-drop, sym, ap, ◌∙◌, ap₂, mul-le-mul_left, mul-zero, mul-suc, arith, length-take, length-drop, length-append}
 use native.Mathlib.Decide.{dec_lt}
 use lib.ListN.{get_or-map}
 use Rattle.lists.specs.Tests.{all_below}
@@ -8,13 +8,15 @@ use Rattle.lists.specs.Parts.{block, grid}
 use Rattle.lists.proofs.TestLaws.{all-ext}
 use Rattle.lists.proofs.TableLaws.{get_or-table}
 use Rattle.std.proofs.Math.Nat.{mul-div_cancel_left}
-use Rattle.std.proofs.lemmas.List.{drop-take, take-take, length-take-le}
+use Rattle.std.proofs.lemmas.List.{length-take-le}
 use Rattle.lists.proofs.PartLaws.{part-is, part_length, length-block, table-agree, block-get, grid-get}
-use Rattle.rule.specs.Day.{terms_of}
-use Rattle.rule.specs.Sound.{terms_fit, all_terms_fit, at_most, pairs_fit}
-use Rattle.ranges.specs.Ranges.{Fronts, all_pass, row_passes, square_fits}
+use Rattle.rule.specs.Allocable.{Marks}
+use Rattle.rule.specs.Value.{Terms}
+use Rattle.rule.specs.Day.{terms_of, marks_of}
+use Rattle.rule.specs.Sound.{terms_fit, all_terms_fit, at_most, pairs_fit, marks_fit}
+use Rattle.ranges.specs.Ranges.{Fronts, issue_fits, terms_in_range, rows_fit, all_pass, row_passes, square_fits}
 use Rattle.ranges.proofs.ScanLaws.{all-and, all_split}
-use Rattle.ranges.proofs.CutLaws.{cut, cut-count, cut-get, cut-room, part-first, part-rest}
+use Rattle.lists.proofs.CutLaws.{cut, cut-count, cut-get, cut-room, part-first, part-rest, block-within, grid-there}
 
 -- ---- a row
 
@@ -66,44 +68,30 @@ square-joined b stride n bound e size =
 
 -- ---- terms
 
--- a part of a part
-pub block-within : (b : List ℕ) (at n o m : ℕ) → o + m ≤ n → block (block b at n) o m ≡ block b (at + o) m
-block-within b at n o m h =
-    let e : n ≡ o + (n - o) = omega arith in
-    ap (λ (k : ℕ). take m (drop o (take k (drop at b)))) e
-    ∙ ap (take m) (drop-take o (n - o) (drop at b)) ∙ take-take m (n - o) (drop o (drop at b)) (omega arith)
-    ∙ ap (take m) (drop-drop o at b)
-
--- rows of a part, as a slice of its own
-pub grid-there : (b : List ℕ) (at stride n m : ℕ) (part : List ℕ) → at + stride * n ≤ length b → part ≡ take (at + stride * n - at) (drop at b) → m ≤ stride
-    → grid part 0 stride n m ≡ grid b at stride n m
-grid-there b at stride n m part h e w =
-    ap (λ (x : List ℕ). grid x 0 stride n m) (e ∙ part-is b at (stride * n))
-    ∙ table-agree n _ _ (λ p l. let z : at + (0 + stride * p) ≡ at + stride * p = omega arith in
-    block-within b at (stride * n) (0 + stride * p) m (omega (arith, mul-le-mul_left stride l, w)) ∙ ap (λ (j : ℕ). block b j m) z)
-
-terms-are : (b : List ℕ) (at m : ℕ) → all_terms_fit m (map terms_of (grid b at 6 m 6)) ≡ all_below m (λ i. terms_fit (terms_of (block b (at + 6 * i) 6)))
+terms-are : (b : List ℕ) (at m : ℕ) → terms_in_range m (grid b at 6 m 6) ≡ all_below m (λ i. issue_fits (block b (at + 6 * i) 6))
 unfolding all_terms_fit
 terms-are b at m =
-    all-ext _ _ m (λ i l. ap terms_fit (get_or-map terms_of (grid b at 6 m 6) i [] ∙ ap terms_of (get_or-table m (λ p. block b (at + 6 * p) 6) i [] l)))
+    all-ext _ _ m (λ i l.
+    let row-is : get_or (grid b at 6 m 6) i [] ≡ block b (at + 6 * i) 6 = get_or-table m (λ p. block b (at + 6 * p) 6) i [] l in
+    ap₂ (λ (t : Terms) (x : Marks). terms_fit t && marks_fit x)
+    (get_or-map terms_of (grid b at 6 m 6) i [] ∙ ap terms_of row-is) (get_or-map marks_of (grid b at 6 m 6) i [] ∙ ap marks_of row-is))
 
 -- the terms as slices of six
-pub terms-cut : (b : List ℕ) {xs : List (List ℕ)} → xs ≡ cut 6 b
-    → all_below (length xs) (λ i. terms_fit (terms_of (get_or xs i []))) ≡ all_terms_fit (length b / 6) (map terms_of (grid b 0 6 (length b / 6) 6))
+pub terms-cut : (b : List ℕ) {xs : List (List ℕ)} → xs ≡ cut 6 b → all_below (length xs) (λ i. issue_fits (get_or xs i [])) ≡ rows_fit b
 terms-cut b {xs} e =
     let m : ℕ = length b / 6 in
-    ap (λ (ys : List (List ℕ)). all_below (length ys) (λ i. terms_fit (terms_of (get_or ys i [])))) e
-    ∙ ap (λ (n : ℕ). all_below n (λ i. terms_fit (terms_of (get_or (cut 6 b) i [])))) (cut-count 6 b)
-    ∙ all-ext _ _ m (λ i l. let z : 6 * i ≡ 0 + 6 * i = omega arith in ap (λ (x : List ℕ). terms_fit (terms_of x)) (cut-get 6 b i l ∙ ap (λ (o : ℕ). block b o 6) z))
+    ap (λ (ys : List (List ℕ)). all_below (length ys) (λ i. issue_fits (get_or ys i []))) e
+    ∙ ap (λ (n : ℕ). all_below n (λ i. issue_fits (get_or (cut 6 b) i []))) (cut-count 6 b)
+    ∙ all-ext _ _ m (λ i l. let z : 6 * i ≡ 0 + 6 * i = omega arith in ap issue_fits (cut-get 6 b i l ∙ ap (λ (o : ℕ). block b o 6) z))
     ∙ sym (terms-are b 0 m)
 
 -- the terms of a part, as a slice of its own
 pub terms-there : (b : List ℕ) (at m : ℕ) → at + 6 * m ≤ length b → (part : List ℕ) → part ≡ take (at + 6 * m - at) (drop at b)
-    → all_terms_fit (length part / 6) (map terms_of (grid part 0 6 (length part / 6) 6)) ≡ all_terms_fit m (map terms_of (grid b at 6 m 6))
+    → rows_fit part ≡ terms_in_range m (grid b at 6 m 6)
 terms-there b at m h part e =
     let long : length part ≡ 6 * m = ap length e ∙ part_length b at (6 * m) h in
     let k : length part / 6 ≡ m = omega arith in
-    ap₂ (λ (n : ℕ) (t : List (List ℕ)). all_terms_fit n (map terms_of t)) k (ap (λ (n : ℕ). grid part 0 6 n 6) k ∙ grid-there b at 6 m 6 part h e (omega arith))
+    ap₂ terms_in_range k (ap (λ (n : ℕ). grid part 0 6 n 6) k ∙ grid-there b at 6 m 6 part h e (omega arith))
 
 -- ---- rows of a slice, cut
 

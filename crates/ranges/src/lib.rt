@@ -4,9 +4,8 @@
 ghost use Rattle.std.specs.Prelude.{◌≡◌, ℕ, ◌-◌, ◌*◌, ◌/◌, ◌^◌, ◌<◌, ◌≤◌, Bool, map, length, nat_le};
 ghost use Rattle.lists.specs.Tables.{table};
 ghost use Rattle.lists.specs.Parts.{grid};
-ghost use Rattle.rule.specs.Day.{terms_of};
-ghost use Rattle.rule.specs.Sound.{sizes_fit, terms_fit, all_terms_fit, at_most, marks_fit};
-ghost use Rattle.ranges.specs.Ranges.{SquareOf, Fronts, Squares, all_pass, none_on_oneself, square_fits};
+ghost use Rattle.rule.specs.Sound.{sizes_fit, at_most, pairs_fit};
+ghost use Rattle.ranges.specs.Ranges.{SquareOf, Fronts, Squares, issue_fits, rows_fit, all_pass, none_on_oneself, square_fits};
 
 use lists::Rows;
 
@@ -22,9 +21,9 @@ pub fn sizes_fit(participants: u64, issues: u64) -> bool
 }
 
 // "kind, price .. 1,000 to 30,000, coupon .. 0 to 20,000, days of accrued interest (0 to 366), and two marks, 0 or 1": one issue's.
-#[tactic(auto, unfolding(rule::specs::Sound::terms_fit))]
-fn terms_are_in_range(terms: &[u64; 6]) -> bool
-    ensures { result ≡ terms_fit (terms_of terms.now) }
+#[tactic(auto, unfolding(rule::specs::Sound::terms_fit, rule::specs::Sound::marks_fit))]
+fn terms_are_in_range(terms: &layout::Terms) -> bool
+    ensures { result ≡ issue_fits terms.now }
 {
     let [kind, price, coupon, days, redeemed, interest] = *terms;
     kind <= 6
@@ -37,7 +36,7 @@ fn terms_are_in_range(terms: &[u64; 6]) -> bool
 
 // The issues' terms stand one after the other.
 pub fn terms_fit(terms: &[u64]) -> bool
-    ensures { result ≡ all_terms_fit (length terms.now / 6) (map terms_of (grid terms.now 0 6 (length terms.now / 6) 6)) }
+    ensures { result ≡ rows_fit terms.now }
 {
     let (issues, _) = terms.as_chunks();
     issues.iter().all(terms_are_in_range)
@@ -141,9 +140,9 @@ fn square_fits(square: &[u64], stride: usize, n: usize) -> bool
 }
 
 // The pair marks of the seven baskets, each basket's so many cells after the last one's.
-pub fn marks_fit(marks: &[u64], apart: usize, stride: usize, n: usize) -> bool
+pub fn pairs_fit(marks: &[u64], apart: usize, stride: usize, n: usize) -> bool
     requires { Squares marks.now apart stride n }
-    ensures { result ≡ marks_fit n (table 7 (λ k. grid marks.now (apart * k) stride n n)) }
+    ensures { result ≡ pairs_fit n (table 7 (λ k. grid marks.now (apart * k) stride n n)) }
 {
     (0..layout::BASKETS).all(|k| {
         let at = apart * k;

@@ -66,14 +66,21 @@ tally_at = today_at + square * baskets
 abbrev pub book_length : ℕ
 book_length = tally_at + lots_size
 
--- ---- places: of an issue's terms; in a table by participant and issue, which begins at some cell; of a position; of a pair's mark in
--- yesterday's or today's
+-- ---- places: of an issue's terms; of lots, by participant and issue, in a table that begins at some cell; of a position; of a pair's mark,
+-- in yesterday's or today's
 
 abbrev pub issue_terms : ℕ → ℕ
 issue_terms i = terms_at + term_size * i
 
+-- of participant p among rows of lots that stand by themselves, and of issue i in it
+abbrev pub row_start : ℕ → ℕ
+row_start p = most_issues * p
+
+abbrev pub row_cell : ℕ → ℕ → ℕ
+row_cell p i = row_start p + i
+
 abbrev pub lots_row : ℕ → ℕ → ℕ
-lots_row at p = at + most_issues * p
+lots_row at p = at + row_start p
 
 abbrev pub lots_cell : ℕ → ℕ → ℕ → ℕ
 lots_cell at p i = lots_row at p + i

@@ -1,8 +1,8 @@
 -- Laws of what may be used. Assumes nothing.
-use mathlib.Core.Path.{◌≡◌, refl, sym, ap, ◌∙◌, subst}
+use mathlib.Core.Path.{◌≡◌, refl, sym, ap, ap₂, ◌∙◌, subst}
 use mathlib.Core.Logic.{inl}
 use mathlib.Core.Bool.{Bool, false}
-use mathlib.Core.List.{List}
+use mathlib.Core.List.{List, []}
 use Prim.Native.Nat.{ℕ, ◌+◌, ◌-◌, ◌*◌, ◌≤◌, ◌<◌}
 use native.Mathlib.Nat.{not-suc-le-zero}
 use native.Mathlib.Omega.{arith}
@@ -15,47 +15,43 @@ use Rattle.lists.specs.Tables.{table}
 use Rattle.lists.specs.Parts.{block}
 use Rattle.lists.proofs.TestLaws.{pick-elim}
 use Rattle.lists.proofs.TableLaws.{length-table, get_or-table}
-use Rattle.lists.proofs.PartLaws.{block-get}
+use Rattle.lists.proofs.PartLaws.{part_length}
+use Rattle.lists.proofs.CutLaws.{cut, cut-get, block-within}
+use Rattle.rule.specs.Day.{term_size, terms_of, marks_of}
 use Rattle.rule.specs.Value.{Terms, value}
 use Rattle.rule.specs.Baskets.{within}
-use Rattle.rule.specs.Allocable.{allocable}
+use Rattle.rule.specs.Allocable.{allocable, Marks}
 use Rattle.rule.specs.Filling.{worth}
-use Rattle.rule.specs.Layout.{terms_at, receipts_at, notices_at}
+use Rattle.rule.specs.Layout.{terms_at, receipts_at, notices_at, book_length, most_issues, lots_size, issue_terms, runs_at, lots_row, row_cell, row_start, issues_at, most_participants}
 use Rattle.lists.specs.Rows.{Becomes}
 use Rattle.lists.proofs.RowLaws.{lent-size, lent-in, lent_out, Changed, changed-none, changed-more}
 use Rattle.value.specs.Rate.{rate}
 use Rattle.value.specs.Rated.{Summable}
 use Rattle.value.proofs.SumLaws.{Summed, sum-none, sum_kept, summable, sum_more, sum-all}
-use Rattle.run_usable.specs.Stock.{terms_in, allocable_in, inside_of, usable_of, may_use, Usable, Usables}
+use Rattle.run_usable.specs.Stock.{terms_in, marks_in, allocable_in, inside_of, usable_of, may_use, Usable, Usables}
 
--- a term of issue i is the cell at its place
-term-at : (b : List ℕ) (i j : ℕ) → j < 6 → get_or (block b (terms_at + 6 * i) 6) j 0 ≡ get_or b (terms_at + 6 * i + j) 0
-term-at b i j h = block-get b (terms_at + 6 * i) 6 j h
+-- the terms of issue i, cut out of the book's
+pub issue-cut : (b : List ℕ) → length b ≡ book_length → {part : List ℕ} {xs : List (List ℕ)} → part ≡ take (receipts_at - terms_at) (drop terms_at b) → xs ≡ cut term_size part
+    → (i : ℕ) → i < most_issues → get_or xs i [] ≡ block b (issue_terms i) term_size
+issue-cut b size {part} {xs} p e i l =
+    let long : length part ≡ term_size * most_issues = ap length p ∙ part_length b terms_at (term_size * most_issues) (omega arith) in
+    ap (λ (ys : List (List ℕ)). get_or ys i []) e ∙ cut-get term_size part i (omega arith)
+    ∙ ap (λ (x : List ℕ). take term_size (drop (term_size * i) x)) p
+    ∙ block-within b terms_at (term_size * most_issues) (term_size * i) term_size (omega arith)
 
-module _ (b : List ℕ) (i : ℕ) where
-  pub kind-in : (terms_in b i).kind ≡ get_or b (terms_at + 6 * i) 0
-  unfolding terms_in
-  kind-in = term-at b i 0 (omega arith) ∙ ap (λ (j : ℕ). get_or b j 0) (omega arith)
-
-  pub redeemed-in : (terms_in b i).redeemed ≡ get_or b (terms_at + 6 * i + 4) 0
-  unfolding terms_in
-  redeemed-in = term-at b i 4 (omega arith)
-
-  pub interest-in : (terms_in b i).interest ≡ get_or b (terms_at + 6 * i + 5) 0
-  unfolding terms_in
-  interest-in = term-at b i 5 (omega arith)
-
+module _ (b : List ℕ) (i : ℕ) {issue : List ℕ} (there : issue ≡ block b (issue_terms i) term_size) where
   -- what the window's rule answers is the allocable quantity
-  pub allocable-cell : (p : ℕ) {r : ℕ}
-      → ((t : Terms) → t.redeemed ≡ get_or b (terms_at + 6 * i + 4) 0 → t.interest ≡ get_or b (terms_at + 6 * i + 5) 0
-      → r ≡ allocable (get_or b 2 0) t (get_or b (notices_at + 32 * p + i) 0) (get_or b (receipts_at + 32 * p + i) 0))
-      → r ≡ allocable_in b p i
-  unfolding allocable_in
-  allocable-cell p h = h (terms_in b i) redeemed-in interest-in
+  pub allocable-cell : (p : ℕ) {notices receipts : ℕ} {m : Marks} {r : ℕ} → notices ≡ lots_row notices_at p → receipts ≡ lots_row receipts_at p
+      → m ≡ marks_of issue → r ≡ allocable (get_or b runs_at 0) m (get_or b (notices + i) 0) (get_or b (receipts + i) 0) → r ≡ allocable_in b p i
+  unfolding allocable_in marks_in
+  allocable-cell p {notices} {receipts} n r q e =
+      let runs : ℕ = get_or b runs_at 0 in
+      e ∙ ap (λ (x : Marks). allocable runs x (get_or b (notices + i) 0) (get_or b (receipts + i) 0)) (q ∙ ap marks_of there)
+      ∙ ap₂ (λ (x y : ℕ). allocable runs (marks_of (block b (issue_terms i) term_size)) (get_or b (x + i) 0) (get_or b (y + i) 0)) n r
 
-  pub inside-cell : (k : ℕ) {w : Bool} → ((t : Terms) → t.kind ≡ get_or b (terms_at + 6 * i) 0 → w ≡ within k t) → w ≡ inside_of b k i
-  unfolding inside_of
-  inside-cell k h = h (terms_in b i) kind-in
+  pub inside-cell : (k : ℕ) {w : Bool} → w ≡ within k (terms_of issue) → w ≡ inside_of b k i
+  unfolding inside_of terms_in
+  inside-cell k e = e ∙ ap (λ (x : List ℕ). within k (terms_of x)) there
 
 -- ---- the issues of a basket
 
@@ -84,32 +80,36 @@ module _ {b : List ℕ} {k : ℕ} {row₀ row : List Bool} {i : ℕ} (w : Marked
 
 -- those of the participants below p are written
 pub record AllocableTo (b cells : List ℕ) (p : ℕ) : Type 0 where
-  pub places : length cells ≡ 384
-  pub each : (q i : ℕ) → q < p → i < get_or b 1 0 → get_or cells (32 * q + i) 0 ≡ allocable_in b q i
+  pub places : length cells ≡ lots_size
+  pub each : (q i : ℕ) → q < p → i < get_or b issues_at 0 → get_or cells (row_cell q i) 0 ≡ allocable_in b q i
 
 module _ (b cells : List ℕ) where
-  pub allocable-none : length cells ≡ 384 → AllocableTo b cells 0
+  pub allocable-none : length cells ≡ lots_size → AllocableTo b cells 0
   allocable-none h = record { places = h; each = λ q i l. absurd (not-suc-le-zero l) }
 
   -- row p was lent, and written
-  pub allocable-more : {p m : ℕ} {part : List ℕ} → p < 12 → get_or b 1 0 ≤ 32 → m ≡ get_or b 1 0
-      → Becomes (λ i c. c ≡ allocable_in b p i) (take (32 * p + m - 32 * p) (drop (32 * p) cells)) part
-      → AllocableTo b cells p → AllocableTo b (put_mid (32 * p) (32 * p + m - 32 * p) cells part) (p + 1)
-  allocable-more {p} {m} {part} h few e w a = record {
-    places = lent-size P cells (32 * p) m part fit w ∙ a.places;
+  pub allocable-more : {at p m : ℕ} {part : List ℕ} → at ≡ row_start p → p < most_participants → m ≡ get_or b issues_at 0 → m ≤ most_issues
+      → Becomes (λ i c. c ≡ allocable_in b p i) (take (at + m - at) (drop at cells)) part
+      → AllocableTo b cells p → AllocableTo b (put_mid at (at + m - at) cells part) (p + 1)
+  allocable-more {at} {p} {m} {part} place h few e w a = record {
+    places = lent-size P cells at m part fit w ∙ a.places;
     each = λ q i l k. cases q i k l (ℕ_discrete q p);
   }
     where
       P : ℕ → ℕ → Type 0
       P i c = c ≡ allocable_in b p i
 
-      fit : 32 * p + m ≤ length cells
-      fit = omega (arith, a.places)
+      fit : at + m ≤ length cells
+      fit = omega (arith, place, a.places)
 
-      cases : (q i : ℕ) → i < get_or b 1 0 → q < p + 1 → Dec (q ≡ p) → get_or (put_mid (32 * p) (32 * p + m - 32 * p) cells part) (32 * q + i) 0 ≡ allocable_in b q i
+      back : List ℕ
+      back = put_mid at (at + m - at) cells part
+
+      cases : (q i : ℕ) → i < get_or b issues_at 0 → q < p + 1 → Dec (q ≡ p) → get_or back (row_cell q i) 0 ≡ allocable_in b q i
       cases q i k l (yes f) =
-          subst (λ (r : ℕ). get_or (put_mid (32 * p) (32 * p + m - 32 * p) cells part) (32 * r + i) 0 ≡ allocable_in b r i) (sym f) (lent-in P cells (32 * p) m part fit w i (omega arith))
-      cases q i k l (no f) = lent_out P cells (32 * p) m part fit w (32 * q + i) (inl (omega arith)) ∙ a.each q i (omega arith) k
+          let here : at + i ≡ row_cell q i = omega (arith, place, f) in
+          ap (λ (j : ℕ). get_or back j 0) (sym here) ∙ lent-in P cells at m part fit w i (omega arith) ∙ ap (λ (r : ℕ). allocable_in b r i) (sym f)
+      cases q i k l (no f) = lent_out P cells at m part fit w (row_cell q i) (inl (omega (arith, place))) ∙ a.each q i (omega arith) k
 
 -- ---- what may be used, issue by issue
 

@@ -1,23 +1,27 @@
 -- What may be used, as it stands in cells. Assumes nothing.
-use Rattle.std.specs.Prelude.{◌≡◌, Bool, true, false, List, ℕ, ◌+◌, ◌-◌, ◌*◌, ◌≤◌, ◌<◌, length, get_or}
+use Rattle.std.specs.Prelude.{◌≡◌, Bool, true, false, List, ℕ, ◌-◌, ◌≤◌, ◌<◌, length, get_or}
 use Rattle.lists.specs.Tests.{pick}
 use Rattle.lists.specs.Tables.{table}
 use Rattle.lists.specs.Parts.{block}
 use Rattle.rule.specs.Value.{Terms}
 use Rattle.rule.specs.Baskets.{within}
-use Rattle.rule.specs.Allocable.{allocable}
+use Rattle.rule.specs.Allocable.{Marks, allocable}
 use Rattle.rule.specs.Filling.{worth}
-use Rattle.rule.specs.Day.{terms_of}
-use Rattle.rule.specs.Layout.{book_length, terms_at, receipts_at, notices_at}
+use Rattle.rule.specs.Day.{term_size, terms_of, marks_of}
+use Rattle.rule.specs.Layout.{most_participants, most_issues, lots_size, participants_at, issues_at, runs_at, receipts_at, notices_at, book_length, issue_terms, lots_cell, row_cell}
 use Rattle.value.specs.Rated.{Rates, Priced}
 
--- issue i's terms in the book
+-- issue i's terms and marks in the book
 unfoldable pub terms_in : List ℕ → ℕ → Terms
-terms_in b i = terms_of (block b (terms_at + 6 * i) 6)
+terms_in b i = terms_of (block b (issue_terms i) term_size)
+
+unfoldable pub marks_in : List ℕ → ℕ → Marks
+marks_in b i = marks_of (block b (issue_terms i) term_size)
 
 -- participant p's allocable quantity of issue i, from the book's cells
 unfoldable pub allocable_in : List ℕ → ℕ → ℕ → ℕ
-allocable_in b p i = allocable (get_or b 2 0) (terms_in b i) (get_or b (notices_at + 32 * p + i) 0) (get_or b (receipts_at + 32 * p + i) 0)
+allocable_in b p i =
+    allocable (get_or b runs_at 0) (marks_in b i) (get_or b (lots_cell notices_at p i) 0) (get_or b (lots_cell receipts_at p i) 0)
 
 -- issue i is of basket k
 unfoldable pub inside_of : List ℕ → ℕ → ℕ → Bool
@@ -30,25 +34,25 @@ usable_of inside allocable used = pick inside (allocable - used) 0
 -- a book, and a row for so many issues
 pub record Markable (b : List ℕ) (issues : ℕ) : Type 0 where
   pub cells : length b ≡ book_length
-  pub few : issues ≤ 32
+  pub few : issues ≤ most_issues
 
 -- a book, and a participant's row
 pub record Row (b : List ℕ) (p : ℕ) (row : List ℕ) : Type 0 where
   pub cells : length b ≡ book_length
-  pub participant : p < 12
-  pub few : length row ≤ 32
+  pub participant : p < most_participants
+  pub few : length row ≤ most_issues
 
--- a book with its sizes, and a row of 32 cells for each of 12 participants
+-- a book with its sizes, and a row for each of the most participants
 pub record Rows (b cells : List ℕ) : Type 0 where
   pub book : length b ≡ book_length
-  pub participants : get_or b 0 0 ≤ 12
-  pub issues : get_or b 1 0 ≤ 32
-  pub places : length cells ≡ 384
+  pub participants : get_or b participants_at 0 ≤ most_participants
+  pub issues : get_or b issues_at 0 ≤ most_issues
+  pub places : length cells ≡ lots_size
 
 -- every allocable quantity of the day stands in its cell
 pub record Allocable (b cells : List ℕ) : Type 0 where
-  pub places : length cells ≡ 384
-  pub each : (p i : ℕ) → p < get_or b 0 0 → i < get_or b 1 0 → get_or cells (32 * p + i) 0 ≡ allocable_in b p i
+  pub places : length cells ≡ lots_size
+  pub each : (p i : ℕ) → p < get_or b participants_at 0 → i < get_or b issues_at 0 → get_or cells (row_cell p i) 0 ≡ allocable_in b p i
 
 -- of an issue of the basket no more was used than is allocable
 pub record Enough (inside : Bool) (allocable used : ℕ) : Type 0 where

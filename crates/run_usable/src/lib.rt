@@ -6,6 +6,7 @@ ghost use Rattle.lists.specs.Tables.{table};
 ghost use Rattle.lists.specs.Rows.{Becomes};
 ghost use Rattle.run_usable.specs.Stock.{allocable_in, inside_of, usable_of, Markable, Row, Rows, Allocable, Enough, Usable, Usables};
 
+use baskets::Marks;
 use quantities::{Lots, Yen};
 use value::Rate;
 
@@ -16,21 +17,19 @@ pub struct Stock<'a> {
     pub allocable: &'a [u64],
 }
 
-// A participant's allocable quantities. By number, and the marks by their place in the book, as notices and receipts are read: a zip of the row
-// with all four would be tuples in tuples.
+// A participant's allocable quantities. By number: a zip of the row with all four would be tuples in tuples.
 fn allocable_row(book: &[u64], participant: usize, row: &mut [u64])
     requires { Row book.now participant row.old }
     ensures { Becomes (λ i c. c ≡ allocable_in book.now participant i) row.old row.new }
 {
     let runs = book[layout::RUNS];
-    let notices = layout::NOTICES + layout::MOST_ISSUES * participant;
-    let receipts = layout::RECEIPTS + layout::MOST_ISSUES * participant;
+    let (issues, _) = book[layout::TERMS..layout::RECEIPTS].as_chunks();
+    let notices = layout::lots_row(layout::NOTICES, participant);
+    let receipts = layout::lots_row(layout::RECEIPTS, participant);
     for (i, cell) in row.iter_mut().enumerate() {
-        let terms = layout::TERMS + layout::TERM * i;
         let lots = baskets::allocable(
             runs,
-            book[terms + 4],
-            book[terms + 5],
+            Marks::of(&issues[i]),
             Lots(book[notices + i]),
             Lots(book[receipts + i]),
         );
@@ -46,9 +45,8 @@ pub fn allocable_rows(book: &[u64], cells: &mut [u64])
     let participants = book[layout::PARTICIPANTS] as usize;
     let issues = book[layout::ISSUES] as usize;
     for p in 0..participants {
-        let at = layout::MOST_ISSUES * p;
-        let end = at + issues;
-        allocable_row(book, p, &mut cells[at..end]);
+        let at = layout::row_start(p);
+        allocable_row(book, p, &mut cells[at..at + issues]);
     }
 }
 
@@ -58,8 +56,10 @@ pub fn mark_issues(book: &[u64], basket: u64, row: &mut [bool])
     ensures { row.new ≡ table (length row.old) (inside_of book.now basket) }
 {
     let kinds = baskets::kinds_of(basket);
+    let (issues, _) = book[layout::TERMS..layout::RECEIPTS].as_chunks();
     for (i, mark) in row.iter_mut().enumerate() {
-        *mark = baskets::is_among(&kinds, book[layout::TERMS + layout::TERM * i]);
+        let [kind, ..]: layout::Terms = issues[i];
+        *mark = baskets::is_among(&kinds, kind);
     }
 }
 

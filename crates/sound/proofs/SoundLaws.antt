@@ -22,8 +22,8 @@ use Rattle.rule.specs.Day.{terms_of}
 use Rattle.rule.specs.Sound.{position_limit, tradable}
 use Rattle.rule.specs.Layout.{terms_at, plus, minus}
 use Rattle.ranges.specs.Ranges.{all_pass, row_passes}
-use Rattle.ranges.proofs.CutLaws.{cut, cut-count, cut-get}
-use Rattle.ranges.proofs.RangeLaws.{part-passes, grid-there, block-within}
+use Rattle.lists.proofs.CutLaws.{cut, cut-count, cut-get, block-within, grid-there}
+use Rattle.ranges.proofs.RangeLaws.{part-passes}
 use Rattle.sound.specs.Sized.{book_terms, eligible_at, is_within, basket_fits}
 
 -- ---- a signed cell

@@ -3,7 +3,7 @@
 
 ghost use Rattle.std.specs.Prelude.{◌≡◌, ◌+◌, ◌*◌, ◌<◌, ◌≤◌, nat_le, slice_index, slice_index_or};
 ghost use Rattle.lists.specs.Parts.{grid};
-ghost use Rattle.rule.specs.Sound.{position_limit, all_terms_fit, at_most, marks_fit, tradable as tradable_of};
+ghost use Rattle.rule.specs.Sound.{position_limit, all_terms_fit, at_most, pairs_fit, tradable as tradable_of};
 ghost use Rattle.rule.specs.Layout.{book_length, cube, sound_book, positions_at};
 ghost use Rattle.ranges.specs.Ranges.{all_pass};
 ghost use Rattle.sound.specs.Sized.{Sized, book_terms, is_within, while_runs, basket_fits, positions_fit, tally_fits, codes_fit, given_fits, state_fits};
@@ -104,11 +104,11 @@ impl<'a> Book<'a> {
 
     // Inlined, since the compiler then knows how few participants there are.
     #[inline(always)]
-    fn marks_fit(&self, at: usize) -> bool
+    fn pairs_fit(&self, at: usize) -> bool
         requires { at + 1008 ≤ book_length }
-        ensures { result ≡ marks_fit self.now.participants (cube self.now.cells.now at self.now.participants) }
+        ensures { result ≡ pairs_fit self.now.participants (cube self.now.cells.now at self.now.participants) }
     {
-        ranges::marks_fit(
+        ranges::pairs_fit(
             &self.cells[at..at + layout::SQUARE * layout::BASKETS],
             layout::SQUARE,
             layout::MOST_PARTICIPANTS,
@@ -123,7 +123,7 @@ impl<'a> Book<'a> {
         self.codes_fit()
             && self.terms_fit()
             && self.lots_at_most(layout::RECEIPTS, limits::RECEIPT)
-            && self.marks_fit(layout::PAIRS)
+            && self.pairs_fit(layout::PAIRS)
     }
 
     // "positions are within 10^13 and sum to zero per basket, a basket with a position has an unmarked issue": one basket.
@@ -178,7 +178,7 @@ impl<'a> Book<'a> {
         self.lots_at_most(layout::NOTICES, lots)
             && self.positions_fit(yen)
             && self.tally_fits(tally)
-            && self.marks_fit(layout::TODAY)
+            && self.pairs_fit(layout::TODAY)
     }
 }
 

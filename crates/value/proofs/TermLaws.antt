@@ -15,9 +15,10 @@ use Rattle.lists.specs.Parts.{block, grid}
 use Rattle.lists.proofs.TestLaws.{and_left, and_right, all-at}
 use Rattle.lists.proofs.TableLaws.{length-table, get_or-table}
 use Rattle.lists.proofs.PartLaws.{block-get, row_at}
+use Rattle.rule.specs.Allocable.{Marks, no_marks}
 use Rattle.rule.specs.Value.{Terms, no_terms}
 use Rattle.rule.specs.Day.{terms_of}
-use Rattle.rule.specs.Sound.{terms_fit, all_terms_fit}
+use Rattle.rule.specs.Sound.{terms_fit, all_terms_fit, marks_fit}
 use Rattle.value.specs.Rate.{rate, Quoted}
 use Rattle.value.proofs.RateLaws.{rate_most}
 use Rattle.value.specs.Rated.{Rated, Rates, Priced, Termed, terms_in}
@@ -50,12 +51,6 @@ module _ (issues : ℕ) (terms : List ℕ) where
 
     pub days-at : (get_or (terms_in issues terms) i no_terms).days ≡ get_or terms (6 * i + 3) 0
     days-at = ap (λ (t : Terms). t.days) its-terms ∙ cell_at 3 (omega arith)
-
-    pub redeemed-at : (get_or (terms_in issues terms) i no_terms).redeemed ≡ get_or terms (6 * i + 4) 0
-    redeemed-at = ap (λ (t : Terms). t.redeemed) its-terms ∙ cell_at 4 (omega arith)
-
-    pub interest-at : (get_or (terms_in issues terms) i no_terms).interest ≡ get_or terms (6 * i + 5) 0
-    interest-at = ap (λ (t : Terms). t.interest) its-terms ∙ cell_at 5 (omega arith)
 
 -- ---- the six cells of an issue, cut out
 
@@ -136,23 +131,19 @@ fit-terms t h =
     let high : Bool = leb t.price 30000 in
     let coupon : Bool = leb t.coupon 20000 in
     let days : Bool = leb t.days 366 in
-    let r : Bool = leb t.redeemed 1 in
-    let i : Bool = leb t.interest 1 in
-    let a = and_left (k && low && high && coupon && days && r) i h in
-    let b = and_left (k && low && high && coupon && days) r a in
-    let c = and_left (k && low && high && coupon) days b in
+    let c = and_left (k && low && high && coupon) days h in
     let d = and_left (k && low && high) coupon c in (
       leb-true _ _ (and_right k low (and_left (k && low) high d)),
       record {
         price_most = leb-true _ _ (and_right (k && low) high d);
         coupon_most = leb-true _ _ (and_right (k && low && high) coupon c);
-        days_most = leb-true _ _ (and_right (k && low && high && coupon) days b);
+        days_most = leb-true _ _ (and_right (k && low && high && coupon) days h);
       },
     )
 
-pub sound-termed : (issues : ℕ) (terms : List ℕ) → 6 * issues ≤ length terms → all_terms_fit issues (terms_in issues terms) ≡ true → Termed issues terms
+pub sound-termed : (issues : ℕ) (terms : List ℕ) (ms : List Marks) → 6 * issues ≤ length terms → all_terms_fit issues (terms_in issues terms) ms ≡ true → Termed issues terms
 unfolding all_terms_fit
-sound-termed issues terms cells fit = record {
+sound-termed issues terms ms cells fit = record {
   cells = cells;
   priced = λ i h. rw (price-at issues terms i h) at (fits i h).0;
   quoted = λ i h. rw (price-at issues terms i h, coupon-at issues terms i h, days-at issues terms i h) at (fits i h).1;
@@ -160,4 +151,6 @@ sound-termed issues terms cells fit = record {
   where
     fits : (i : ℕ) → i < issues → (1000 ≤ (get_or (terms_in issues terms) i no_terms).price)
         × Quoted (get_or (terms_in issues terms) i no_terms).price (get_or (terms_in issues terms) i no_terms).coupon (get_or (terms_in issues terms) i no_terms).days
-    fits i h = fit-terms (get_or (terms_in issues terms) i no_terms) (all-at (λ i. terms_fit (get_or (terms_in issues terms) i no_terms)) issues fit i h)
+    fits i h =
+        fit-terms (get_or (terms_in issues terms) i no_terms)
+        (and_left (terms_fit (get_or (terms_in issues terms) i no_terms)) _ (all-at (λ i. terms_fit (get_or (terms_in issues terms) i no_terms) && marks_fit (get_or ms i no_marks)) issues fit i h))

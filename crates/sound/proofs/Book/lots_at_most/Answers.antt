@@ -2,7 +2,7 @@
 use Rattle.std.proofs.Common.{ap, refl, ◌*◌, ◌∙◌, arith}
 use Rattle.lists.proofs.PartLaws.{part_length}
 use Rattle.rule.specs.Sound.{at_most}
-use Rattle.ranges.proofs.RangeLaws.{grid-there}
+use Rattle.lists.proofs.CutLaws.{grid-there}
 use Rattle.sound.proofs.Book.lots_at_most.Goals as goal
 
 pub invariant_of-lots : goal.invariant_of-lots

@@ -4,7 +4,7 @@ use Rattle.lists.specs.Tests.{all_below}
 use Rattle.rule.specs.Layout.{tally_at}
 use Rattle.ranges.specs.Ranges.{all_pass, row_passes}
 use Rattle.ranges.proofs.ScanLaws.{all-items}
-use Rattle.ranges.proofs.CutLaws.{cut, YieldsList-from_chunks}
+use Rattle.lists.proofs.CutLaws.{cut, YieldsList-from_chunks}
 use Rattle.ranges.proofs.RangeLaws.{part-cut}
 use Rattle.sound.specs.Sized.{is_within}
 use Rattle.sound.proofs.Book.tally_fits.Goals as goal

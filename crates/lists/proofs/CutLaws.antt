@@ -1,5 +1,5 @@
--- A list cut into parts of s elements, as `as_chunks` and `chunks_exact` give them. Assumes nothing.
-use Rattle.std.proofs.Common.{◌≡◌, ℕ, zero, suc, ◌+◌, ◌*◌, ◌/◌, ◌<◌, ◌≤◌, List, [], ◌++◌, length, get_or, take, drop, drop-drop, refl, sym, ap, ap₂, ◌∙◌, subst, mul-zero, mul-suc, mul-le-mul_left, length-append, arith}
+-- A list cut into parts of s elements, as `as_chunks` and `chunks_exact` give them; parts of parts. Assumes nothing.
+use Rattle.std.proofs.Common.{◌≡◌, ℕ, zero, suc, ◌+◌, ◌-◌, ◌*◌, ◌/◌, ◌<◌, ◌≤◌, List, [], ◌++◌, length, get_or, take, drop, drop-drop, refl, sym, ap, ap₂, ◌∙◌, subst, mul-zero, mul-suc, mul-le-mul_left, length-append, arith}
 use Rattle.std.proofs.Math.Nat.{div-mul-le_self, mul-div-le, add-mul-div_left}
 use Rattle.std.proofs.Math.Seq.{take-append_seam, drop-append_seam}
 use Rattle.std.specs.Simd.{first_chunks}
@@ -7,6 +7,9 @@ use Rattle.std.specs.Iterator.{AlwaysYields}
 use Rattle.std.specs.Slice.Iter.{chunks_exact_rest, chunks_exact_size, chunks_exact_steps}
 use Rattle.std.specs.declared.slice.ChunksExact.{ChunksExact}
 use Rattle.std.proofs.lemmas.Iterator.{YieldsList}
+use Rattle.std.proofs.lemmas.List.{drop-take, take-take}
+use Rattle.lists.specs.Parts.{block, grid}
+use Rattle.lists.proofs.PartLaws.{part-is, table-agree}
 
 module _ {A : Type 0} where
   abbrev pub cut : ℕ → List A → List (List A)
@@ -65,3 +68,21 @@ module _ {A : Type 0} where
   YieldsList-from_chunks {it} s xs e f p = record {
     runs = subst (AlwaysYields chunks_exact_steps (λ y. y.now) it) (ap₂ (λ (z : ℕ) (ys : List A). first_chunks z (length ys / z) ys) f e) (chunks-give _ it (omega (arith, p, f)) refl);
   }
+
+-- ---- parts of parts
+
+-- a part of a part
+pub block-within : (b : List ℕ) (at n o m : ℕ) → o + m ≤ n → block (block b at n) o m ≡ block b (at + o) m
+block-within b at n o m h =
+    let e : n ≡ o + (n - o) = omega arith in
+    ap (λ (k : ℕ). take m (drop o (take k (drop at b)))) e
+    ∙ ap (take m) (drop-take o (n - o) (drop at b)) ∙ take-take m (n - o) (drop o (drop at b)) (omega arith)
+    ∙ ap (take m) (drop-drop o at b)
+
+-- rows of a part, as a slice of its own
+pub grid-there : (b : List ℕ) (at stride n m : ℕ) (part : List ℕ) → at + stride * n ≤ length b → part ≡ take (at + stride * n - at) (drop at b) → m ≤ stride
+    → grid part 0 stride n m ≡ grid b at stride n m
+grid-there b at stride n m part h e w =
+    ap (λ (x : List ℕ). grid x 0 stride n m) (e ∙ part-is b at (stride * n))
+    ∙ table-agree n _ _ (λ p l. let z : at + (0 + stride * p) ≡ at + stride * p = omega arith in
+    block-within b at (stride * n) (0 + stride * p) m (omega (arith, mul-le-mul_left stride l, w)) ∙ ap (λ (j : ℕ). block b j m) z)
