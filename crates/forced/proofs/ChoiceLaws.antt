@@ -1,13 +1,13 @@
 -- The forced issue, chosen on the way down the issues. Assumes nothing.
 use mathlib.Core.Path.{◌≡◌, refl, sym, ap, ap₂, subst, ◌∙◌}
 use mathlib.Core.Logic.{◌⊎◌, inl, inr, ⊎_elim}
-use Prim.Native.Nat.{ℕ, suc, ◌+◌, ◌-◌, ◌≤◌, ◌<◌, suc-le-suc}
+use Prim.Native.Nat.{ℕ, suc, ◌+◌, ◌-◌, ◌*◌, ◌≤◌, ◌<◌, suc-le-suc}
 use native.Mathlib.Nat.{le_refl, not-suc-le-zero}
 use native.Mathlib.Decide.{ℕ_discrete}
 use native.Mathlib.Omega.{arith}
 use mathlib.Core.Bool.{Bool, true, false, ◌&&◌}
 use mathlib.Core.List.{List, [], ◌∷◌, ◌++◌, map, append-nil, append_assoc}
-use lib.ListN.{length, get_or, length-append, length-map, get_or-map}
+use lib.ListN.{length, take, get_or, length-append, length-map, get_or-map}
 use lib.Seq.{get_or-append-add}
 use lib.Dec.{eqb, leb, ltb}
 use borrow.Author.Tests.{eq-eqb, ne_eqb, lt-ltb, le-ltb, le-leb, lt-leb}
@@ -18,8 +18,12 @@ use Rattle.lists.specs.Tables.{from, up_to}
 use Rattle.lists.specs.Folds.{keep, Every}
 use Rattle.lists.proofs.TestLaws.{pick_yes, pick_no, pick-elim, stop, go, and_no, all_of, all-stop}
 use Rattle.lists.proofs.FoldLaws.{every_map, every-from, every-at, every_get, every-keep, keep-cong, keep-none}
+use Rattle.value.specs.Rated.{terms_in}
+use Rattle.baskets.specs.Marked.{marks_in}
+use Rattle.lists.proofs.CutLaws.{cut, cut-rows}
+use Rattle.rule.specs.Allocable.{Marks, no_marks}
 use Rattle.rule.specs.Value.{Terms, no_terms}
-use Rattle.rule.specs.Day.{terms_of}
+use Rattle.rule.specs.Day.{terms_of, marks_of, term_size}
 use Rattle.rule.specs.Filling.{eligible, or_else, most_notified, fifth_largest, forced_issue}
 use Rattle.baskets.specs.Kinds.{KindsOf}
 use Rattle.forced.specs.Choice.{noted, takes, is_eligible, ten_year, fifth_among, FirstOf, BestAt, BestOf, least_of, FifthAt, FifthOf}
@@ -147,31 +151,38 @@ module _ (notified l : List ℕ) {most issue : ℕ} (h : BestAt (λ i. get_or no
   none-notified none =
       keep-none has-most l (every_map (λ i. n i ≤ most) (λ i. has-most i ≡ false) (λ i k. stop _ _ (le-ltb 0 (n i) (omega arith))) l h.all)
 
-module _ (k : ℕ) (ts : List Terms) (notified : List ℕ) where
-  pub forced-best : {b : Best} → BestOf (λ i. get_or notified i 0) (eligible k ts) (Some b) → b.issue ≡ forced_issue k ts notified
+module _ (k : ℕ) (ts : List Terms) (ms : List Marks) (notified : List ℕ) where
+  pub forced-best : {b : Best} → BestOf (λ i. get_or notified i 0) (eligible k ts ms) (Some b) → b.issue ≡ forced_issue k ts ms notified
   unfolding forced_issue
-  forced-best h = sym (some-notified notified (eligible k ts) h.1 h.0 _)
+  forced-best h = sym (some-notified notified (eligible k ts ms) h.1 h.0 _)
 
-  pub forced-fifth : {r : ℕ} → BestOf (λ i. get_or notified i 0) (eligible k ts) None → r ≡ fifth_among ts (eligible k ts) → r ≡ forced_issue k ts notified
+  pub forced-fifth : {r : ℕ} → BestOf (λ i. get_or notified i 0) (eligible k ts ms) None → r ≡ fifth_among ts (eligible k ts ms) → r ≡ forced_issue k ts ms notified
   unfolding forced_issue
-  forced-fifth h e = rw (none-notified notified (eligible k ts) h (le_refl 0)) e
+  forced-fifth h e = rw (none-notified notified (eligible k ts ms) h (le_refl 0)) e
+
+-- the issues of the day come first among the terms
+pub given-cut : (k n : ℕ) (terms notified : List ℕ) {cs : List (List ℕ)} → cs ≡ cut term_size terms → term_size * n ≤ length terms
+    → forced_issue k (map terms_of (take n cs)) (map marks_of (take n cs)) notified ≡ forced_issue k (terms_in n terms) (marks_in n terms) notified
+unfolding terms_in marks_in
+given-cut k n terms notified e h =
+    ap (λ (rows : List (List ℕ)). forced_issue k (map terms_of rows) (map marks_of rows) notified) (ap (take n) e ∙ cut-rows term_size n terms (omega arith) h)
 
 -- ---- down the issues
 
 -- the unmarked issues of the basket from i on
-abbrev pub lower : ℕ → List Terms → ℕ → ℕ → List ℕ
-lower k ts issues i = keep (is_eligible k ts) (from i (issues - i))
+abbrev pub lower : ℕ → List Terms → List Marks → ℕ → ℕ → List ℕ
+lower k ts ms issues i = keep (is_eligible k ts ms) (from i (issues - i))
 
-module _ (k : ℕ) (ts : List Terms) (issues : ℕ) where
-  lower-none : lower k ts issues issues ≡ []
+module _ (k : ℕ) (ts : List Terms) (ms : List Marks) (issues : ℕ) where
+  lower-none : lower k ts ms issues issues ≡ []
   lower-none = let z : issues - issues ≡ 0 = omega arith in rw z
 
-  lower-more : {i j : ℕ} → suc j ≡ i → j < issues → lower k ts issues j ≡ pick (is_eligible k ts j) (j ∷ lower k ts issues i) (lower k ts issues i)
+  lower-more : {i j : ℕ} → suc j ≡ i → j < issues → lower k ts ms issues j ≡ pick (is_eligible k ts ms j) (j ∷ lower k ts ms issues i) (lower k ts ms issues i)
   lower-more {i} {j} e h =
       let z : issues - j ≡ suc (issues - i) = omega arith in
       rw (z, e)
 
-  lower-all : {i : ℕ} → length ts ≡ issues → i ≤ 0 → lower k ts issues i ≡ eligible k ts
+  lower-all : {i : ℕ} → length ts ≡ issues → i ≤ 0 → lower k ts ms issues i ≡ eligible k ts ms
   unfolding eligible
   lower-all {i} e h =
       let z : i ≡ 0 = omega arith in
@@ -182,6 +193,12 @@ module _ (issues : List (List ℕ)) where
   abbrev ts : List Terms
   ts = map terms_of issues
 
+  abbrev ms : List Marks
+  ms = map marks_of issues
+
+  its-marks : (i : ℕ) → get_or ms i no_marks ≡ marks_of (get_or issues i [])
+  its-marks i = get_or-map marks_of issues i []
+
   its-terms : (i : ℕ) → get_or ts i no_terms ≡ terms_of (get_or issues i [])
   its-terms i = get_or-map terms_of issues i []
 
@@ -190,62 +207,62 @@ module _ (issues : List (List ℕ)) where
 
   -- what the call says of issue i
   abbrev Said : List Bool → ℕ → Bool → Type 0
-  Said kinds i r = (k : ℕ) → KindsOf k kinds → r ≡ takes k (terms_of (get_or issues i []))
+  Said kinds i r = (k : ℕ) → KindsOf k kinds → r ≡ takes k (terms_of (get_or issues i [])) (marks_of (get_or issues i []))
 
-  eligible-at : {k : ℕ} (i : ℕ) {kinds : List Bool} {r : Bool} → KindsOf k kinds → Said kinds i r → r ≡ is_eligible k ts i
-  eligible-at {k} i q e = e k q ∙ ap (takes k) (sym (its-terms i))
+  eligible-at : {k : ℕ} (i : ℕ) {kinds : List Bool} {r : Bool} → KindsOf k kinds → Said kinds i r → r ≡ is_eligible k ts ms i
+  eligible-at {k} i q e = e k q ∙ ap₂ (takes k) (sym (its-terms i)) (sym (its-marks i))
 
   module _ (kinds : List Bool) where
     -- the best among the issues from i on
     pub record BestDown (notified : List ℕ) (i : ℕ) (b : Option Best) : Type 0 where
-      pub best : (k : ℕ) → KindsOf k kinds → BestOf (noted notified) (lower k ts (length issues) i) b
+      pub best : (k : ℕ) → KindsOf k kinds → BestOf (noted notified) (lower k ts ms (length issues) i) b
 
     pub best-begin : {notified : List ℕ} → BestDown notified (length issues) None
-    best-begin = record { best = λ k q. rw (lower-none k ts (length issues)) (record { all = tt; some = λ s. absurd (omega arith) }) }
+    best-begin = record { best = λ k q. rw (lower-none k ts ms (length issues)) (record { all = tt; some = λ s. absurd (omega arith) }) }
 
     pub best-more : {notified : List ℕ} {i j : ℕ} {b r : Option Best} → suc j ≡ i → j < length issues → BestDown notified i b
         → ((k : ℕ) (n : ℕ → ℕ) (l : List ℕ) → KindsOf k kinds → get_or notified j 0 ≡ n j → BestOf n l b
-        → BestOf n (pick (takes k (terms_of (get_or issues j []))) (j ∷ l) l) r) → BestDown notified j r
+        → BestOf n (pick (takes k (terms_of (get_or issues j [])) (marks_of (get_or issues j []))) (j ∷ l) l) r) → BestDown notified j r
     best-more {notified} {i} {j} {b} {r} e h d f = record {
       best = λ k q.
-          let l : List ℕ = lower k ts (length issues) i in
+          let l : List ℕ = lower k ts ms (length issues) i in
           let said = f k (noted notified) l q refl (d.best k q) in
           subst (λ (m : List ℕ). BestOf (noted notified) m r)
-          (ap (λ (y : Bool). pick y (j ∷ l) l) (ap (takes k) (sym (its-terms j))) ∙ sym (lower-more k ts (length issues) e h)) said;
+          (ap (λ (y : Bool). pick y (j ∷ l) l) (ap₂ (takes k) (sym (its-terms j)) (sym (its-marks j))) ∙ sym (lower-more k ts ms (length issues) e h)) said;
     }
 
-    pub best-all : {notified : List ℕ} {i : ℕ} {b : Option Best} → i ≤ 0 → BestDown notified i b → (k : ℕ) → KindsOf k kinds → BestOf (noted notified) (eligible k ts) b
-    best-all {notified} {i} {b} h d k q = subst (λ (l : List ℕ). BestOf (noted notified) l b) (lower-all k ts (length issues) (length-map issues terms_of) h) (d.best k q)
+    pub best-all : {notified : List ℕ} {i : ℕ} {b : Option Best} → i ≤ 0 → BestDown notified i b → (k : ℕ) → KindsOf k kinds → BestOf (noted notified) (eligible k ts ms) b
+    best-all {notified} {i} {b} h d k q = subst (λ (l : List ℕ). BestOf (noted notified) l b) (lower-all k ts ms (length issues) (length-map issues terms_of) h) (d.best k q)
 
     -- the fifth largest of kind 2, and of all, among the issues from i on
     pub record FifthDown (i : ℕ) (ten any : Option Fifth) : Type 0 where
-      pub ten_of : (k : ℕ) → KindsOf k kinds → FifthOf (ten_year ts (lower k ts (length issues) i)) ten
-      pub any_of : (k : ℕ) → KindsOf k kinds → FifthOf (lower k ts (length issues) i) any
+      pub ten_of : (k : ℕ) → KindsOf k kinds → FifthOf (ten_year ts (lower k ts ms (length issues) i)) ten
+      pub any_of : (k : ℕ) → KindsOf k kinds → FifthOf (lower k ts ms (length issues) i) any
 
     pub fifth-none : FifthDown (length issues) None None
     fifth-none = record {
-      ten_of = λ k q. rw (lower-none k ts (length issues)) (record { met_is = refl; issue_is = refl });
-      any_of = λ k q. rw (lower-none k ts (length issues)) (record { met_is = refl; issue_is = refl });
+      ten_of = λ k q. rw (lower-none k ts ms (length issues)) (record { met_is = refl; issue_is = refl });
+      any_of = λ k q. rw (lower-none k ts ms (length issues)) (record { met_is = refl; issue_is = refl });
     }
 
     module _ {i j : ℕ} (next : suc j ≡ i) (h : j < length issues) {ten any : Option Fifth} (d : FifthDown i ten any) {r : Bool} (e : Said kinds j r) where
-      more : r ≡ true → (k : ℕ) → KindsOf k kinds → j ∷ lower k ts (length issues) i ≡ lower k ts (length issues) j
-      more y k q = sym (lower-more k ts (length issues) next h ∙ pick_yes (is_eligible k ts j) _ _ (sym (eligible-at j q e) ∙ y))
+      more : r ≡ true → (k : ℕ) → KindsOf k kinds → j ∷ lower k ts ms (length issues) i ≡ lower k ts ms (length issues) j
+      more y k q = sym (lower-more k ts ms (length issues) next h ∙ pick_yes (is_eligible k ts ms j) _ _ (sym (eligible-at j q e) ∙ y))
 
-      same : r ≡ false → (k : ℕ) → KindsOf k kinds → lower k ts (length issues) i ≡ lower k ts (length issues) j
-      same y k q = sym (lower-more k ts (length issues) next h ∙ pick_no (is_eligible k ts j) _ _ (sym (eligible-at j q e) ∙ y))
+      same : r ≡ false → (k : ℕ) → KindsOf k kinds → lower k ts ms (length issues) i ≡ lower k ts ms (length issues) j
+      same y k q = sym (lower-more k ts ms (length issues) next h ∙ pick_no (is_eligible k ts ms j) _ _ (sym (eligible-at j q e) ∙ y))
 
       -- an unmarked issue of the basket, of kind 2 or another
       pub fifth-ten : {ten' any' : Option Fifth} → r ≡ true → get_or (get_or issues j []) 0 0 ≡ 2 → ((l : List ℕ) → FifthOf l ten → FifthOf (j ∷ l) ten')
           → ((l : List ℕ) → FifthOf l any → FifthOf (j ∷ l) any') → FifthDown j ten' any'
       fifth-ten {ten'} {any'} y kind f g = record {
-        ten_of = λ k q. subst (λ (l : List ℕ). FifthOf l ten') (sym (ten-more ts (lower k ts (length issues) i) j (kind-at j ∙ kind)) ∙ ap (ten_year ts) (more y k q)) (f _ (d.ten_of k q));
+        ten_of = λ k q. subst (λ (l : List ℕ). FifthOf l ten') (sym (ten-more ts (lower k ts ms (length issues) i) j (kind-at j ∙ kind)) ∙ ap (ten_year ts) (more y k q)) (f _ (d.ten_of k q));
         any_of = λ k q. subst (λ (l : List ℕ). FifthOf l any') (more y k q) (g _ (d.any_of k q));
       }
 
       pub fifth-other : {any' : Option Fifth} → r ≡ true → (get_or (get_or issues j []) 0 0 ≡ 2 → ⊥) → ((l : List ℕ) → FifthOf l any → FifthOf (j ∷ l) any') → FifthDown j ten any'
       fifth-other {any'} y kind g = record {
-        ten_of = λ k q. subst (λ (l : List ℕ). FifthOf l ten) (sym (ten-other ts (lower k ts (length issues) i) j (λ x. kind (sym (kind-at j) ∙ x))) ∙ ap (ten_year ts) (more y k q)) (d.ten_of k q);
+        ten_of = λ k q. subst (λ (l : List ℕ). FifthOf l ten) (sym (ten-other ts (lower k ts ms (length issues) i) j (λ x. kind (sym (kind-at j) ∙ x))) ∙ ap (ten_year ts) (more y k q)) (d.ten_of k q);
         any_of = λ k q. subst (λ (l : List ℕ). FifthOf l any') (more y k q) (g _ (d.any_of k q));
       }
 
@@ -255,10 +272,10 @@ module _ (issues : List (List ℕ)) where
         any_of = λ k q. subst (λ (l : List ℕ). FifthOf l any) (same y k q) (d.any_of k q);
       }
 
-    pub fifth-all : {i : ℕ} {ten any : Option Fifth} → i ≤ 0 → FifthDown i ten any → (k : ℕ) → KindsOf k kinds → found (option_or ten any) ≡ fifth_among ts (eligible k ts)
+    pub fifth-all : {i : ℕ} {ten any : Option Fifth} → i ≤ 0 → FifthDown i ten any → (k : ℕ) → KindsOf k kinds → found (option_or ten any) ≡ fifth_among ts (eligible k ts ms)
     fifth-all {i} {ten} {any} h d k q =
-        let e = lower-all k ts (length issues) (length-map issues terms_of) h in
-        chosen ts (eligible k ts) ten any (subst (λ (l : List ℕ). FifthOf (ten_year ts l) ten) e (d.ten_of k q)) (subst (λ (l : List ℕ). FifthOf l any) e (d.any_of k q))
+        let e = lower-all k ts ms (length issues) (length-map issues terms_of) h in
+        chosen ts (eligible k ts ms) ten any (subst (λ (l : List ℕ). FifthOf (ten_year ts l) ten) e (d.ten_of k q)) (subst (λ (l : List ℕ). FifthOf l any) e (d.any_of k q))
 
     -- ---- going down the issues, the first ones are left
 
@@ -293,8 +310,8 @@ module _ (issues : List (List ℕ)) where
       left-item : get_or issues i [] ≡ x
       left-item = ap₂ (λ (l : List (List ℕ)) (k : ℕ). get_or l k []) here place ∙ get_or-append-add rest' (x ∷ w.behind) 0 []
 
-      pub left-said : {r : Bool} → ((k : ℕ) → KindsOf k kinds → r ≡ takes k (terms_of x)) → Said kinds i r
-      left-said e k q = e k q ∙ ap (λ (y : List ℕ). takes k (terms_of y)) (sym left-item)
+      pub left-said : {r : Bool} → ((k : ℕ) → KindsOf k kinds → r ≡ takes k (terms_of x) (marks_of x)) → Said kinds i r
+      left-said e k q = e k q ∙ ap (λ (y : List ℕ). takes k (terms_of y) (marks_of y)) (sym left-item)
 
       pub left-kind : get_or (get_or issues i []) 0 0 ≡ get_or x 0 0
       left-kind = ap (λ (y : List ℕ). get_or y 0 0) left-item
@@ -309,13 +326,13 @@ module _ (issues : List (List ℕ)) where
 
 -- ---- the forced issue is one of the day's
 
-module _ (k : ℕ) (ts : List Terms) (some : 0 < length ts) where
+module _ (k : ℕ) (ts : List Terms) (ms : List Marks) (some : 0 < length ts) where
   abbrev inside : ℕ → Type 0
   inside i = i < length ts
 
-  eligible-inside : Every inside (eligible k ts)
+  eligible-inside : Every inside (eligible k ts ms)
   unfolding eligible
-  eligible-inside = every-keep inside (is_eligible k ts) (up_to (length ts)) (every-from inside 0 (length ts) (λ i a b. omega arith))
+  eligible-inside = every-keep inside (is_eligible k ts ms) (up_to (length ts)) (every-from inside 0 (length ts) (λ i a b. omega arith))
 
   either-inside : (a b : List ℕ) → Every inside a → Every inside b → Every inside (or_else a b)
   either-inside [] b p q = q
@@ -328,10 +345,10 @@ module _ (k : ℕ) (ts : List Terms) (some : 0 < length ts) where
   unfolding most_notified
   most-inside notified l h = every-keep inside _ l h
 
-  pub forced-inside : (notified : List ℕ) → forced_issue k ts notified < length ts
+  pub forced-inside : (notified : List ℕ) → forced_issue k ts ms notified < length ts
   unfolding forced_issue
   forced-inside notified =
-      let l : List ℕ = eligible k ts in
+      let l : List ℕ = eligible k ts ms in
       let all = eligible-inside in
       let fifth = fifth-inside (or_else (ten_year ts l) l) (either-inside (ten_year ts l) l (every-keep inside _ l all) all) in
       every_get inside 0 some (or_else (most_notified notified l) (fifth_largest (or_else (ten_year ts l) l) ∷ []))

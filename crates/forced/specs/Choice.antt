@@ -3,7 +3,7 @@ use Rattle.std.specs.Prelude.{◌≡◌, Bool, ◌&&◌, List, ◌∷◌, ℕ, �
 use Rattle.lists.specs.Folds.{keep, Every}
 use Rattle.rule.specs.Value.{Terms, no_terms}
 use Rattle.rule.specs.Baskets.{within}
-use Rattle.rule.specs.Allocable.{unmarked}
+use Rattle.rule.specs.Allocable.{Marks, no_marks, unmarked}
 use Rattle.rule.specs.Filling.{or_else, fifth_largest}
 use Rattle.forced.specs.declared.Best.{Best}
 use Rattle.forced.specs.declared.Fifth.{Fifth}
@@ -12,12 +12,12 @@ use Rattle.forced.specs.declared.Fifth.{Fifth}
 abbrev pub noted : List ℕ → ℕ → ℕ
 noted notified i = get_or notified i 0
 
--- an issue of these terms is one of basket k, and unmarked
-abbrev pub takes : ℕ → Terms → Bool
-takes k t = within k t && unmarked t
+-- an issue of these terms and marks is one of basket k, and unmarked
+abbrev pub takes : ℕ → Terms → Marks → Bool
+takes k t m = within k t && unmarked m
 
-abbrev pub is_eligible : ℕ → List Terms → ℕ → Bool
-is_eligible k ts i = takes k (get_or ts i no_terms)
+abbrev pub is_eligible : ℕ → List Terms → List Marks → ℕ → Bool
+is_eligible k ts ms i = takes k (get_or ts i no_terms) (get_or ms i no_marks)
 
 -- the issues of kind 2
 abbrev pub ten_year : List Terms → List ℕ → List ℕ

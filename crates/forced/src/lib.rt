@@ -3,10 +3,11 @@
 
 ghost use Rattle.std.specs.Prelude.{◌≡◌, ◌*◌, ◌≤◌, List, ◌∷◌, map, ℕ, length};
 ghost use Rattle.lists.specs.Tests.{pick};
-ghost use Rattle.rule.specs.Day.{terms_of};
+ghost use Rattle.rule.specs.Day.{term_size, terms_of, marks_of};
 ghost use Rattle.rule.specs.Filling.{eligible, forced_issue};
 ghost use Rattle.value.specs.Rated.{terms_in};
 ghost use Rattle.baskets.specs.Kinds.{KindsOf};
+ghost use Rattle.baskets.specs.Marked.{marks_in};
 ghost use Rattle.forced.specs.Choice.{noted, takes, fifth_among, least_of, BestOf, FifthOf};
 
 use quantities::Lots;
@@ -40,11 +41,11 @@ fn least(best: Option<Best>) -> Lots
 fn with_notified(
     best: Option<Best>,
     i: usize,
-    issue: &[u64; 6],
+    issue: &layout::Terms,
     notified: Lots,
     kinds: &[bool; 7],
 ) -> Option<Best>
-    ensures { (k : ℕ) → (n : ℕ → ℕ) → (l : List ℕ) → KindsOf k kinds.now → notified.0 ≡ n i → BestOf n l best → BestOf n (pick (takes k (terms_of issue.now)) (i ∷ l) l) result }
+    ensures { (k : ℕ) → (n : ℕ → ℕ) → (l : List ℕ) → KindsOf k kinds.now → notified.0 ≡ n i → BestOf n l best → BestOf n (pick (takes k (terms_of issue.now) (marks_of issue.now)) (i ∷ l) l) result }
 {
     if notified >= least(best) && baskets::is_eligible(issue, kinds) {
         return Some(Best {
@@ -56,9 +57,9 @@ fn with_notified(
 }
 
 // The unmarked issue of the basket with the most notified lots; none where none has any.
-fn most_notified(issues: &[[u64; 6]], kinds: &[bool; 7], notified: &[u64]) -> Option<Best>
+fn most_notified(issues: &[layout::Terms], kinds: &[bool; 7], notified: &[u64]) -> Option<Best>
     requires { length notified.now ≡ length issues.now }
-    ensures { (k : ℕ) → KindsOf k kinds.now → BestOf (noted notified.now) (eligible k (map terms_of issues.now)) result }
+    ensures { (k : ℕ) → KindsOf k kinds.now → BestOf (noted notified.now) (eligible k (map terms_of issues.now) (map marks_of issues.now)) result }
 {
     let mut best = None;
     // By number, which is the answer: of issues and notified lots side by side each item would be a tuple in a tuple.
@@ -87,8 +88,8 @@ fn with_issue(fifth: Option<Fifth>, i: usize) -> Option<Fifth>
 }
 
 // "the fifth largest ISIN among unmarked kind 2 issues of the basket. With no unmarked kind 2 issue there .. among all unmarked ones".
-fn fifth_largest(issues: &[[u64; 6]], kinds: &[bool; 7]) -> usize
-    ensures { (k : ℕ) → KindsOf k kinds.now → result ≡ fifth_among (map terms_of issues.now) (eligible k (map terms_of issues.now)) }
+fn fifth_largest(issues: &[layout::Terms], kinds: &[bool; 7]) -> usize
+    ensures { (k : ℕ) → KindsOf k kinds.now → result ≡ fifth_among (map terms_of issues.now) (eligible k (map terms_of issues.now) (map marks_of issues.now)) }
 {
     let mut ten = None;
     let mut any = None;
@@ -109,10 +110,10 @@ fn fifth_largest(issues: &[[u64; 6]], kinds: &[bool; 7]) -> usize
 
 // The issue that is forced in run 3. "With none above 0": only then are the issues gone through again.
 pub fn forced_issue(terms: &[u64], basket: u64, notified: &[u64]) -> usize
-    requires { 6 * length notified.now ≤ length terms.now }
-    ensures { result ≡ forced_issue basket (terms_in (length notified.now) terms.now) notified.now }
+    requires { term_size * length notified.now ≤ length terms.now }
+    ensures { result ≡ forced_issue basket (terms_in (length notified.now) terms.now) (marks_in (length notified.now) terms.now) notified.now }
 {
-    let issues = &terms.as_chunks::<6>().0[..notified.len()];
+    let issues = &terms.as_chunks().0[..notified.len()];
     let kinds = baskets::kinds_of(basket);
     match most_notified(issues, &kinds, notified) {
         Some(best) => best.issue,

@@ -2,9 +2,10 @@
 // largest day.
 #![tactic(auto)]
 
-ghost use Rattle.std.specs.Prelude.{◌≡◌, ◌≤◌, ◌<◌};
-ghost use Rattle.rule.specs.Day.{baskets};
-ghost use Rattle.rule.specs.Layout.{most_participants, book_length, row_start, lots_row, position_row, position_cell, mark_square, mark_cell};
+ghost use Rattle.std.specs.Prelude.{◌≡◌, ◌+◌, ◌*◌, ◌≤◌, ◌<◌, length};
+ghost use Rattle.lists.specs.Parts.{block, grid};
+ghost use Rattle.rule.specs.Day.{baskets, code_size, term_size};
+ghost use Rattle.rule.specs.Layout.{most_participants, most_issues, lots_size, square, codes_at, terms_at, book_length, row_start, lots_row, position_row, position_cell, mark_square, mark_cell};
 
 pub const BASKETS: usize = 7;
 
@@ -58,6 +59,8 @@ pub fn length() -> usize
     LENGTH
 }
 
+// ---- places
+
 // Where a participant's row begins among rows of lots that stand by themselves.
 pub fn row_start(participant: usize) -> usize
     requires { participant ≤ most_participants }
@@ -104,6 +107,75 @@ pub fn mark(at: usize, basket: usize, deliverer: usize, receiver: usize) -> usiz
     ensures { result ≡ mark_cell at basket deliverer receiver }
 {
     mark_square(at, basket) + MOST_PARTICIPANTS * deliverer + receiver
+}
+
+// ---- parts of the book, as they are read
+
+// The codes of the day's issues, one after the other.
+pub fn codes(book: &[u64], issues: usize) -> &[u64]
+    requires { (length book.now ≡ book_length) × (issues ≤ most_issues) }
+    ensures cells { result.now ≡ block book.now codes_at (code_size * issues) }
+    ensures size { length result.now ≡ code_size * issues }
+{
+    &book[CODES..CODES + CODE * issues]
+}
+
+// The terms of the day's issues.
+pub fn terms(book: &[u64], issues: usize) -> &[Terms]
+    requires { (length book.now ≡ book_length) × (issues ≤ most_issues) }
+    ensures cells { result.now ≡ grid book.now terms_at term_size issues term_size }
+    ensures size { length result.now ≡ issues }
+{
+    let (rows, _) = book[TERMS..RECEIPTS].as_chunks();
+    &rows[..issues]
+}
+
+// A participant's lots by issue: scheduled, notified, or of the tally.
+pub fn lots(book: &[u64], at: usize, participant: usize, issues: usize) -> &[u64]
+    requires { (length book.now ≡ book_length) × (at + lots_size ≤ book_length) × (participant < most_participants) × (issues ≤ most_issues) }
+    ensures cells { result.now ≡ block book.now (lots_row at participant) issues }
+    ensures size { length result.now ≡ issues }
+{
+    let from = lots_row(at, participant);
+    &book[from..from + issues]
+}
+
+// All participants' rows of the same.
+pub fn lots_rows(book: &[u64], at: usize, participants: usize) -> &[u64]
+    requires { (length book.now ≡ book_length) × (at + lots_size ≤ book_length) × (participants ≤ most_participants) }
+    ensures cells { result.now ≡ block book.now at (most_issues * participants) }
+    ensures size { length result.now ≡ most_issues * participants }
+{
+    &book[at..lots_row(at, participants)]
+}
+
+// A basket's positions by participant.
+pub fn positions(book: &[u64], basket: usize, participants: usize) -> &[u64]
+    requires { (length book.now ≡ book_length) × (basket < baskets) × (participants ≤ most_participants) }
+    ensures cells { result.now ≡ block book.now (position_row basket) participants }
+    ensures size { length result.now ≡ participants }
+{
+    let from = position_row(basket);
+    &book[from..from + participants]
+}
+
+// The pair marks of the baskets, yesterday's or today's: for each a square of rows as far apart as in the largest day.
+pub fn squares(book: &[u64], at: usize) -> &[u64]
+    requires { (length book.now ≡ book_length) × (at + square * baskets ≤ book_length) }
+    ensures cells { result.now ≡ block book.now at (square * baskets) }
+    ensures size { length result.now ≡ square * baskets }
+{
+    &book[at..at + SQUARE * BASKETS]
+}
+
+// One basket's.
+pub fn marks(book: &[u64], at: usize, basket: usize) -> &[u64]
+    requires { (length book.now ≡ book_length) × (at + square * baskets ≤ book_length) × (basket < baskets) }
+    ensures cells { result.now ≡ block book.now (mark_square at basket) square }
+    ensures size { length result.now ≡ square }
+{
+    let from = mark_square(at, basket);
+    &book[from..from + SQUARE]
 }
 
 // The entries of a run's two lists: their numbers, and the most of each.

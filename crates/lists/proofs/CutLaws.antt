@@ -1,15 +1,17 @@
 -- A list cut into parts of s elements, as `as_chunks` and `chunks_exact` give them; parts of parts. Assumes nothing.
-use Rattle.std.proofs.Common.{◌≡◌, ℕ, zero, suc, ◌+◌, ◌-◌, ◌*◌, ◌/◌, ◌<◌, ◌≤◌, List, [], ◌++◌, length, get_or, take, drop, drop-drop, refl, sym, ap, ap₂, ◌∙◌, subst, mul-zero, mul-suc, mul-le-mul_left, length-append, arith}
-use Rattle.std.proofs.Math.Nat.{div-mul-le_self, mul-div-le, add-mul-div_left}
+use Rattle.std.proofs.Common.{◌≡◌, ℕ, zero, suc, ◌+◌, ◌-◌, ◌*◌, ◌/◌, ◌<◌, ◌≤◌, List, [], ◌++◌, length, get_or, get_or-take, take, drop, drop-drop, refl, sym, ap, ap₂, ◌∙◌, subst, mul-zero, mul-suc, mul-le-mul_left, length-append, le_refl, arith}
+use Rattle.std.proofs.Math.Nat.{div-mul-le_self, mul-div-le, le-div_iff_mul-le, add-mul-div_left}
 use Rattle.std.proofs.Math.Seq.{take-append_seam, drop-append_seam}
 use Rattle.std.specs.Simd.{first_chunks}
 use Rattle.std.specs.Iterator.{AlwaysYields}
 use Rattle.std.specs.Slice.Iter.{chunks_exact_rest, chunks_exact_size, chunks_exact_steps}
 use Rattle.std.specs.declared.slice.ChunksExact.{ChunksExact}
 use Rattle.std.proofs.lemmas.Iterator.{YieldsList}
-use Rattle.std.proofs.lemmas.List.{drop-take, take-take}
+use Rattle.std.proofs.lemmas.List.{drop-take, take-take, length-take-le}
 use Rattle.lists.specs.Parts.{block, grid}
+use Rattle.lists.proofs.TableLaws.{length-table, get_or-table}
 use Rattle.lists.proofs.PartLaws.{part-is, table-agree}
+use lib.Seq.{ext_get_or}
 
 module _ {A : Type 0} where
   abbrev pub cut : ℕ → List A → List (List A)
@@ -79,10 +81,25 @@ block-within b at n o m h =
     ∙ ap (take m) (drop-take o (n - o) (drop at b)) ∙ take-take m (n - o) (drop o (drop at b)) (omega arith)
     ∙ ap (take m) (drop-drop o at b)
 
--- rows of a part, as a slice of its own
+-- rows of a part
+pub grid-within : (b : List ℕ) (at w stride n m : ℕ) → stride * n ≤ w → m ≤ stride → grid (block b at w) 0 stride n m ≡ grid b at stride n m
+grid-within b at w stride n m h k =
+    table-agree n _ _ (λ p l. let z : at + (0 + stride * p) ≡ at + stride * p = omega arith in
+    block-within b at w (0 + stride * p) m (omega (arith, mul-le-mul_left stride l, h, k)) ∙ ap (λ (j : ℕ). block b j m) z)
+
+-- the same, where the part is a slice of its own
 pub grid-there : (b : List ℕ) (at stride n m : ℕ) (part : List ℕ) → at + stride * n ≤ length b → part ≡ take (at + stride * n - at) (drop at b) → m ≤ stride
     → grid part 0 stride n m ≡ grid b at stride n m
-grid-there b at stride n m part h e w =
-    ap (λ (x : List ℕ). grid x 0 stride n m) (e ∙ part-is b at (stride * n))
-    ∙ table-agree n _ _ (λ p l. let z : at + (0 + stride * p) ≡ at + stride * p = omega arith in
-    block-within b at (stride * n) (0 + stride * p) m (omega (arith, mul-le-mul_left stride l, w)) ∙ ap (λ (j : ℕ). block b j m) z)
+grid-there b at stride n m part h e w = ap (λ (x : List ℕ). grid x 0 stride n m) (e ∙ part-is b at (stride * n)) ∙ grid-within b at (stride * n) stride n m (le_refl (stride * n)) w
+
+-- the first parts are rows that stand one after the other
+pub cut-rows : (s n : ℕ) (xs : List ℕ) → 0 < s → s * n ≤ length xs → take n (cut s xs) ≡ grid xs 0 s n s
+cut-rows s n xs some h =
+    let room : n ≤ length xs / s = (le-div_iff_mul-le some).1 (omega arith) in
+    let long : length (take n (cut s xs)) ≡ n = length-take-le n (cut s xs) (omega (arith, cut-count s xs)) in
+    ext_get_or [] (take n (cut s xs)) (grid xs 0 s n s) (long ∙ sym (length-table n (λ p. block xs (0 + s * p) s)))
+    (λ p l.
+    let k : p < n = omega (arith, long) in
+    let z : s * p ≡ 0 + s * p = omega arith in
+    get_or-take n (cut s xs) p [] k ∙ cut-get s xs p (omega arith) ∙ ap (λ (o : ℕ). block xs o s) z
+    ∙ sym (get_or-table n (λ p. block xs (0 + s * p) s) p [] k))

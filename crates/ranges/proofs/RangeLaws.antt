@@ -14,9 +14,9 @@ use Rattle.rule.specs.Allocable.{Marks}
 use Rattle.rule.specs.Value.{Terms}
 use Rattle.rule.specs.Day.{terms_of, marks_of}
 use Rattle.rule.specs.Sound.{terms_fit, all_terms_fit, at_most, pairs_fit, marks_fit}
-use Rattle.ranges.specs.Ranges.{Fronts, issue_fits, terms_in_range, rows_fit, all_pass, row_passes, square_fits}
+use Rattle.ranges.specs.Ranges.{Fronts, issue_fits, terms_in_range, all_pass, row_passes, square_fits}
 use Rattle.ranges.proofs.ScanLaws.{all-and, all_split}
-use Rattle.lists.proofs.CutLaws.{cut, cut-count, cut-get, cut-room, part-first, part-rest, block-within, grid-there}
+use Rattle.lists.proofs.CutLaws.{cut, cut-count, cut-get, cut-room, part-first, part-rest, block-within}
 
 -- ---- a row
 
@@ -68,30 +68,11 @@ square-joined b stride n bound e size =
 
 -- ---- terms
 
-terms-are : (b : List ℕ) (at m : ℕ) → terms_in_range m (grid b at 6 m 6) ≡ all_below m (λ i. issue_fits (block b (at + 6 * i) 6))
+pub terms-are : (rows : List (List ℕ)) → all_below (length rows) (λ i. issue_fits (get_or rows i [])) ≡ terms_in_range (length rows) rows
 unfolding all_terms_fit
-terms-are b at m =
-    all-ext _ _ m (λ i l.
-    let row-is : get_or (grid b at 6 m 6) i [] ≡ block b (at + 6 * i) 6 = get_or-table m (λ p. block b (at + 6 * p) 6) i [] l in
-    ap₂ (λ (t : Terms) (x : Marks). terms_fit t && marks_fit x)
-    (get_or-map terms_of (grid b at 6 m 6) i [] ∙ ap terms_of row-is) (get_or-map marks_of (grid b at 6 m 6) i [] ∙ ap marks_of row-is))
-
--- the terms as slices of six
-pub terms-cut : (b : List ℕ) {xs : List (List ℕ)} → xs ≡ cut 6 b → all_below (length xs) (λ i. issue_fits (get_or xs i [])) ≡ rows_fit b
-terms-cut b {xs} e =
-    let m : ℕ = length b / 6 in
-    ap (λ (ys : List (List ℕ)). all_below (length ys) (λ i. issue_fits (get_or ys i []))) e
-    ∙ ap (λ (n : ℕ). all_below n (λ i. issue_fits (get_or (cut 6 b) i []))) (cut-count 6 b)
-    ∙ all-ext _ _ m (λ i l. let z : 6 * i ≡ 0 + 6 * i = omega arith in ap issue_fits (cut-get 6 b i l ∙ ap (λ (o : ℕ). block b o 6) z))
-    ∙ sym (terms-are b 0 m)
-
--- the terms of a part, as a slice of its own
-pub terms-there : (b : List ℕ) (at m : ℕ) → at + 6 * m ≤ length b → (part : List ℕ) → part ≡ take (at + 6 * m - at) (drop at b)
-    → rows_fit part ≡ terms_in_range m (grid b at 6 m 6)
-terms-there b at m h part e =
-    let long : length part ≡ 6 * m = ap length e ∙ part_length b at (6 * m) h in
-    let k : length part / 6 ≡ m = omega arith in
-    ap₂ terms_in_range k (ap (λ (n : ℕ). grid part 0 6 n 6) k ∙ grid-there b at 6 m 6 part h e (omega arith))
+terms-are rows =
+    all-ext _ _ (length rows) (λ i l.
+    ap₂ (λ (t : Terms) (m : Marks). terms_fit t && marks_fit m) (sym (get_or-map terms_of rows i [])) (sym (get_or-map marks_of rows i [])))
 
 -- ---- rows of a slice, cut
 
@@ -111,11 +92,11 @@ module _ (stride m : ℕ) (some : 0 < stride) (wide : m ≤ stride) where
       ∙ all-ext _ _ (length b / stride) (λ p l. ap (λ (x : List ℕ). all_pass test (take m x)) (cut-get stride b p l) ∙ front-passes test b p (cut-room stride b p l))
 
   -- the same of n rows from a place on, lent as a slice of their own
-  pub part-cut : (test : ℕ → Bool) (b : List ℕ) (at n : ℕ) (part : List ℕ) → at + stride * n ≤ length b → part ≡ take (at + stride * n - at) (drop at b)
+  pub part-cut : (test : ℕ → Bool) (b : List ℕ) (at n : ℕ) (part : List ℕ) → at + stride * n ≤ length b → part ≡ block b at (stride * n)
       → all_below (length (cut stride part)) (λ p. all_pass test (take m (get_or (cut stride part) p []))) ≡ all_below n (λ p. row_passes test b (at + stride * p) m)
   part-cut test b at n part h e =
-      let same : part ≡ block b at (stride * n) = e ∙ part-is b at (stride * n) in
-      let k : length part / stride ≡ n = ap (λ (l : ℕ). l / stride) (ap length e ∙ part_length b at (stride * n) h) ∙ mul-div_cancel_left n some in
+      let same : part ≡ block b at (stride * n) = e in
+      let k : length part / stride ≡ n = ap (λ (l : ℕ). l / stride) (ap length e ∙ length-block b at (stride * n) h) ∙ mul-div_cancel_left n some in
       cut-passes test part ∙ ap₂ (λ (j : ℕ) (x : List ℕ). all_below j (λ p. row_passes test x (stride * p) m)) k same
       ∙ all-ext _ _ n (λ p l. all-ext _ _ m (λ i j. let z : at + (stride * p + i) ≡ at + stride * p + i = omega arith in
       ap test (block-get b at (stride * n) (stride * p + i) (omega (arith, mul-le-mul_left stride l, mul-suc stride p, wide)) ∙ ap (λ (o : ℕ). get_or b o 0) z)))
@@ -209,10 +190,10 @@ marks-lent b apart stride n wide fit =
     ∙ sym (marks-are b apart stride n)
 
 -- marks of a part, as a slice of its own
-pub marks-there : (b : List ℕ) (at apart stride n : ℕ) (part : List ℕ) → n ≤ stride → stride * n ≤ apart → part ≡ take (at + apart * 7 - at) (drop at b)
+pub marks-there : (b : List ℕ) (at apart stride n : ℕ) (part : List ℕ) → n ≤ stride → stride * n ≤ apart → part ≡ block b at (apart * 7)
     → table 7 (λ k. grid part (apart * k) stride n n) ≡ table 7 (λ k. grid b (at + apart * k) stride n n)
 marks-there b at apart stride n part h fit e =
-    ap (λ (x : List ℕ). table 7 (λ k. grid x (apart * k) stride n n)) (e ∙ part-is b at (apart * 7))
+    ap (λ (x : List ℕ). table 7 (λ k. grid x (apart * k) stride n n)) e
     ∙ table-agree 7 _ _ (λ k l. table-agree n _ _ (λ p j. let z : at + (apart * k + stride * p) ≡ at + apart * k + stride * p = omega arith in
     block-within b at (apart * 7) (apart * k + stride * p) n
     (omega (arith, within-seven apart k l, mul-le-mul_left stride j, mul-suc stride p, fit, h))

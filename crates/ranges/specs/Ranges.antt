@@ -1,8 +1,8 @@
 -- The ranges of opening data as tests on cells, and what their slices need. Assumes nothing.
-use Rattle.std.specs.Prelude.{◌≡◌, ℕ, ◌+◌, ◌*◌, ◌/◌, ◌≤◌, Bool, ◌&&◌, List, map, length, nat_eq, slice_index}
+use Rattle.std.specs.Prelude.{◌≡◌, ℕ, ◌+◌, ◌*◌, ◌≤◌, Bool, ◌&&◌, List, map, length, nat_eq, slice_index}
 use Rattle.lists.specs.Tests.{all_below}
 use Rattle.lists.specs.Parts.{grid}
-use Rattle.rule.specs.Day.{term_size, terms_of, marks_of}
+use Rattle.rule.specs.Day.{terms_of, marks_of}
 use Rattle.rule.specs.Sound.{at_most, terms_fit, marks_fit, all_terms_fit}
 
 -- an issue's six cells have its terms and marks in their ranges
@@ -12,10 +12,6 @@ issue_fits issue = terms_fit (terms_of issue) && marks_fit (marks_of issue)
 -- the terms and marks of m issues, a row for each
 abbrev pub terms_in_range : ℕ → List (List ℕ) → Bool
 terms_in_range m rows = all_terms_fit m (map terms_of rows) (map marks_of rows)
-
--- cells that have such a row for each issue
-abbrev pub rows_fit : List ℕ → Bool
-rows_fit terms = terms_in_range (length terms / term_size) (grid terms 0 term_size (length terms / term_size) term_size)
 
 -- n rows of n cells, a stride apart
 pub record SquareOf (marks : List ℕ) (stride n : ℕ) : Type 0 where

@@ -5,7 +5,7 @@ ghost use Rattle.std.specs.Prelude.{◌≡◌, ℕ, ◌-◌, ◌*◌, ◌/◌, �
 ghost use Rattle.lists.specs.Tables.{table};
 ghost use Rattle.lists.specs.Parts.{grid};
 ghost use Rattle.rule.specs.Sound.{sizes_fit, at_most, pairs_fit};
-ghost use Rattle.ranges.specs.Ranges.{SquareOf, Fronts, Squares, issue_fits, rows_fit, all_pass, none_on_oneself, square_fits};
+ghost use Rattle.ranges.specs.Ranges.{SquareOf, Fronts, Squares, issue_fits, terms_in_range, all_pass, none_on_oneself, square_fits};
 
 use lists::Rows;
 
@@ -34,11 +34,10 @@ fn terms_are_in_range(terms: &layout::Terms) -> bool
         && interest <= 1
 }
 
-// The issues' terms stand one after the other.
-pub fn terms_fit(terms: &[u64]) -> bool
-    ensures { result ≡ rows_fit terms.now }
+// The same of every issue.
+pub fn terms_fit(issues: &[layout::Terms]) -> bool
+    ensures { result ≡ terms_in_range (length issues.now) issues.now }
 {
-    let (issues, _) = terms.as_chunks();
     issues.iter().all(terms_are_in_range)
 }
 

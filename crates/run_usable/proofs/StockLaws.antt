@@ -12,17 +12,16 @@ use lib.Seq.{ext_get_or, get_or-set_same, get_or-set_other, take_all}
 use borrow.Rule.Slice.PartMut.{put_mid}
 use borrow.Author.Count.{below_more}
 use Rattle.lists.specs.Tables.{table}
-use Rattle.lists.specs.Parts.{block}
+use Rattle.lists.specs.Parts.{block, grid}
 use Rattle.lists.proofs.TestLaws.{pick-elim}
 use Rattle.lists.proofs.TableLaws.{length-table, get_or-table}
-use Rattle.lists.proofs.PartLaws.{part_length}
-use Rattle.lists.proofs.CutLaws.{cut, cut-get, block-within}
+use Rattle.lists.proofs.PartLaws.{block-get}
 use Rattle.rule.specs.Day.{term_size, terms_of, marks_of}
 use Rattle.rule.specs.Value.{Terms, value}
 use Rattle.rule.specs.Baskets.{within}
 use Rattle.rule.specs.Allocable.{allocable, Marks}
 use Rattle.rule.specs.Filling.{worth}
-use Rattle.rule.specs.Layout.{terms_at, receipts_at, notices_at, book_length, most_issues, lots_size, issue_terms, runs_at, lots_row, row_cell, row_start, issues_at, most_participants}
+use Rattle.rule.specs.Layout.{terms_at, receipts_at, notices_at, most_issues, lots_size, issue_terms, runs_at, lots_row, row_cell, row_start, issues_at, most_participants}
 use Rattle.lists.specs.Rows.{Becomes}
 use Rattle.lists.proofs.RowLaws.{lent-size, lent-in, lent_out, Changed, changed-none, changed-more}
 use Rattle.value.specs.Rate.{rate}
@@ -30,28 +29,24 @@ use Rattle.value.specs.Rated.{Summable}
 use Rattle.value.proofs.SumLaws.{Summed, sum-none, sum_kept, summable, sum_more, sum-all}
 use Rattle.run_usable.specs.Stock.{terms_in, marks_in, allocable_in, inside_of, usable_of, may_use, Usable, Usables}
 
--- the terms of issue i, cut out of the book's
-pub issue-cut : (b : List ℕ) → length b ≡ book_length → {part : List ℕ} {xs : List (List ℕ)} → part ≡ take (receipts_at - terms_at) (drop terms_at b) → xs ≡ cut term_size part
-    → (i : ℕ) → i < most_issues → get_or xs i [] ≡ block b (issue_terms i) term_size
-issue-cut b size {part} {xs} p e i l =
-    let long : length part ≡ term_size * most_issues = ap length p ∙ part_length b terms_at (term_size * most_issues) (omega arith) in
-    ap (λ (ys : List (List ℕ)). get_or ys i []) e ∙ cut-get term_size part i (omega arith)
-    ∙ ap (λ (x : List ℕ). take term_size (drop (term_size * i) x)) p
-    ∙ block-within b terms_at (term_size * most_issues) (term_size * i) term_size (omega arith)
+module _ (b : List ℕ) (n i : ℕ) (l : i < n) {issues : List (List ℕ)} (there : issues ≡ grid b terms_at term_size n term_size) where
+  its-terms : get_or issues i [] ≡ block b (issue_terms i) term_size
+  its-terms = ap (λ (rows : List (List ℕ)). get_or rows i []) there ∙ get_or-table n (λ p. block b (terms_at + term_size * p) term_size) i [] l
 
-module _ (b : List ℕ) (i : ℕ) {issue : List ℕ} (there : issue ≡ block b (issue_terms i) term_size) where
   -- what the window's rule answers is the allocable quantity
-  pub allocable-cell : (p : ℕ) {notices receipts : ℕ} {m : Marks} {r : ℕ} → notices ≡ lots_row notices_at p → receipts ≡ lots_row receipts_at p
-      → m ≡ marks_of issue → r ≡ allocable (get_or b runs_at 0) m (get_or b (notices + i) 0) (get_or b (receipts + i) 0) → r ≡ allocable_in b p i
+  pub allocable-cell : (p : ℕ) {notices receipts : List ℕ} {m : Marks} {r : ℕ} → notices ≡ block b (lots_row notices_at p) n → receipts ≡ block b (lots_row receipts_at p) n
+      → m ≡ marks_of (get_or issues i []) → r ≡ allocable (get_or b runs_at 0) m (get_or notices i 0) (get_or receipts i 0) → r ≡ allocable_in b p i
   unfolding allocable_in marks_in
-  allocable-cell p {notices} {receipts} n r q e =
+  allocable-cell p {notices} {receipts} e f q h =
       let runs : ℕ = get_or b runs_at 0 in
-      e ∙ ap (λ (x : Marks). allocable runs x (get_or b (notices + i) 0) (get_or b (receipts + i) 0)) (q ∙ ap marks_of there)
-      ∙ ap₂ (λ (x y : ℕ). allocable runs (marks_of (block b (issue_terms i) term_size)) (get_or b (x + i) 0) (get_or b (y + i) 0)) n r
+      h ∙ ap (λ (x : Marks). allocable runs x (get_or notices i 0) (get_or receipts i 0)) (q ∙ ap marks_of its-terms)
+      ∙ ap₂ (allocable runs (marks_of (block b (issue_terms i) term_size)))
+      (ap (λ (x : List ℕ). get_or x i 0) e ∙ block-get b (lots_row notices_at p) n i l)
+      (ap (λ (x : List ℕ). get_or x i 0) f ∙ block-get b (lots_row receipts_at p) n i l)
 
-  pub inside-cell : (k : ℕ) {w : Bool} → w ≡ within k (terms_of issue) → w ≡ inside_of b k i
+  pub inside-cell : (k : ℕ) {w : Bool} → w ≡ within k (terms_of (get_or issues i [])) → w ≡ inside_of b k i
   unfolding inside_of terms_in
-  inside-cell k e = e ∙ ap (λ (x : List ℕ). within k (terms_of x)) there
+  inside-cell k e = e ∙ ap (λ (x : List ℕ). within k (terms_of x)) its-terms
 
 -- ---- the issues of a basket
 

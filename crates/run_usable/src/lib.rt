@@ -23,15 +23,15 @@ fn allocable_row(book: &[u64], participant: usize, row: &mut [u64])
     ensures { Becomes (λ i c. c ≡ allocable_in book.now participant i) row.old row.new }
 {
     let runs = book[layout::RUNS];
-    let (issues, _) = book[layout::TERMS..layout::RECEIPTS].as_chunks();
-    let notices = layout::lots_row(layout::NOTICES, participant);
-    let receipts = layout::lots_row(layout::RECEIPTS, participant);
+    let issues = layout::terms(book, row.len());
+    let notices = layout::lots(book, layout::NOTICES, participant, row.len());
+    let receipts = layout::lots(book, layout::RECEIPTS, participant, row.len());
     for (i, cell) in row.iter_mut().enumerate() {
         let lots = baskets::allocable(
             runs,
             Marks::of(&issues[i]),
-            Lots(book[notices + i]),
-            Lots(book[receipts + i]),
+            Lots(notices[i]),
+            Lots(receipts[i]),
         );
         *cell = lots.0;
     }
@@ -56,7 +56,7 @@ pub fn mark_issues(book: &[u64], basket: u64, row: &mut [bool])
     ensures { row.new ≡ table (length row.old) (inside_of book.now basket) }
 {
     let kinds = baskets::kinds_of(basket);
-    let (issues, _) = book[layout::TERMS..layout::RECEIPTS].as_chunks();
+    let issues = layout::terms(book, row.len());
     for (i, mark) in row.iter_mut().enumerate() {
         let [kind, ..]: layout::Terms = issues[i];
         *mark = baskets::is_among(&kinds, kind);

@@ -1,30 +1,27 @@
 -- Soundness as tests on cells: signed cells, baskets, and the whole. Assumes nothing.
-use Rattle.std.proofs.Common.{◌≡◌, ℕ, zero, suc, ◌+◌, ◌-◌, ◌*◌, ◌/◌, ◌%◌, ◌<◌, ◌≤◌, Bool, true, false, not, ◌&&◌, ◌||◌, eqb, leb, List, [], ◌∷◌, length, get_or, take, drop, sym, refl, ap, subst, ◌∙◌, le_refl, add-one, arith, take_all, take-suc, le-ltb, lt-ltb, le-leb, leb-true}
+use Rattle.std.proofs.Common.{◌≡◌, ℕ, zero, suc, ◌+◌, ◌-◌, ◌*◌, ◌%◌, ◌<◌, ◌≤◌, Bool, true, false, not, ◌&&◌, ◌||◌, eqb, leb, List, [], ◌∷◌, map, length, get_or, take, sym, refl, ap, ap₂, ◌∙◌, add-one, arith, take_all, take-suc, le-ltb, lt-ltb, le-leb, leb-true}
 use native.Mathlib.Decide.{dec_le, dec_lt}
 use mathlib.Core.Bool.{and_assoc}
 use lib.ListN.{length-map, get_or-map}
-use borrow.Author.Tests.{lt-leb, not-true}
+use borrow.Author.Tests.{lt-leb}
 use Rattle.std.specs.Bool.{MatchBool}
 use Rattle.std.specs.List.{AllWithin, HoldsAt}
 use Rattle.lists.specs.Tests.{all_below}
 use Rattle.lists.specs.Tables.{from}
 use Rattle.lists.specs.Folds.{total, keep}
-use Rattle.lists.specs.Parts.{block, grid}
-use Rattle.lists.proofs.TestLaws.{both_ways, pick-cases, all_none, all_more, all_of, all-stop, all-through, all-at, and_left, and_right, row-stop}
+use Rattle.lists.specs.Parts.{block}
+use Rattle.lists.proofs.TestLaws.{both_ways, pick-cases, all_none, all_more, all-stop, all-through, and_left, and_right, row-stop}
 use Rattle.lists.proofs.FoldLaws.{total-append}
-use Rattle.lists.proofs.TableLaws.{length-table, get_or-table}
-use Rattle.lists.proofs.PartLaws.{part-is, part_length}
 use Rattle.rule.specs.Value.{Terms, no_terms}
 use Rattle.rule.specs.Baskets.{within}
-use Rattle.rule.specs.Allocable.{unmarked}
+use Rattle.rule.specs.Allocable.{Marks, no_marks, unmarked}
 use Rattle.rule.specs.Filling.{eligible}
-use Rattle.rule.specs.Day.{terms_of}
+use Rattle.rule.specs.Day.{terms_of, marks_of}
 use Rattle.rule.specs.Sound.{position_limit, tradable}
-use Rattle.rule.specs.Layout.{terms_at, plus, minus}
+use Rattle.rule.specs.Layout.{plus, minus}
 use Rattle.ranges.specs.Ranges.{all_pass, row_passes}
-use Rattle.lists.proofs.CutLaws.{cut, cut-count, cut-get, block-within, grid-there}
 use Rattle.ranges.proofs.RangeLaws.{part-passes}
-use Rattle.sound.specs.Sized.{book_terms, eligible_at, is_within, basket_fits}
+use Rattle.sound.specs.Sized.{book_terms, book_marks, is_within, basket_fits}
 
 -- ---- a signed cell
 
@@ -68,60 +65,38 @@ module _ (f : ℕ → Bool) where
   kept-none k (suc n) h = rw (h k (omega arith)) (kept-none (suc k) n (λ i l. h i (omega arith)))
 
 abbrev pub is_eligible : ℕ → List ℕ → Bool
-is_eligible k x = within k (terms_of x) && unmarked (terms_of x)
+is_eligible k issue = within k (terms_of issue) && unmarked (marks_of issue)
 
-module _ (b : List ℕ) (k : ℕ) where
-  terms-count : length (book_terms b) ≡ get_or b 1 0
-  terms-count = length-map (grid b terms_at 6 (get_or b 1 0) 6) terms_of ∙ length-table (get_or b 1 0) (λ p. block b (terms_at + 6 * p) 6)
+-- the day's issues, of which any is eligible or none
+module _ (rows : List (List ℕ)) (k : ℕ) where
+  abbrev ts : List Terms
+  ts = map terms_of rows
 
-  terms-there : (i : ℕ) → i < get_or b 1 0 → get_or (book_terms b) i no_terms ≡ terms_of (block b (terms_at + 6 * i) 6)
-  terms-there i l =
-      get_or-map terms_of (grid b terms_at 6 (get_or b 1 0) 6) i [] ∙ ap terms_of (get_or-table (get_or b 1 0) (λ p. block b (terms_at + 6 * p) 6) i [] l)
+  abbrev ms : List Marks
+  ms = map marks_of rows
 
   abbrev there : ℕ → Bool
-  there i = within k (get_or (book_terms b) i no_terms) && unmarked (get_or (book_terms b) i no_terms)
+  there i = within k (get_or ts i no_terms) && unmarked (get_or ms i no_marks)
 
-  there-is : (i : ℕ) → i < get_or b 1 0 → there i ≡ eligible_at b k (terms_at + 6 * i)
-  unfolding eligible_at
-  there-is i l = ap (λ (t : Terms). within k t && unmarked t) (terms-there i l)
+  there-is : (i : ℕ) → there i ≡ is_eligible k (get_or rows i [])
+  there-is i = ap₂ (λ (t : Terms) (m : Marks). within k t && unmarked m) (get_or-map terms_of rows i []) (get_or-map marks_of rows i [])
 
-  tradable-some : {o i : ℕ} → o ≡ terms_at + 6 * i → i < get_or b 1 0 → eligible_at b k o ≡ true → true ≡ tradable k (book_terms b)
+  count : length ts ≡ length rows
+  count = length-map rows terms_of
+
+  tradable-some : (i : ℕ) → i < length rows → is_eligible k (get_or rows i []) ≡ true → true ≡ tradable k ts ms
   unfolding tradable eligible
-  tradable-some {o} {i} d l e =
-      sym (lt-ltb 0 _ (kept-some there 0 (length (book_terms b)) i (omega arith) (omega (arith, terms-count)) (there-is i l ∙ ap (eligible_at b k) (sym d) ∙ e)))
+  tradable-some i l e = sym (lt-ltb 0 _ (kept-some there 0 (length ts) i (omega arith) (omega (arith, count)) (there-is i ∙ e)))
 
-  tradable-none : all_below (get_or b 1 0) (λ i. not (eligible_at b k (terms_at + 6 * i))) ≡ true → false ≡ tradable k (book_terms b)
+  tradable-none : ((i : ℕ) → i < length rows → is_eligible k (get_or rows i []) ≡ false) → false ≡ tradable k ts ms
   unfolding tradable eligible
-  tradable-none h =
-      rw (kept-none there 0 (length (book_terms b)) (λ i l. let l' : i < get_or b 1 0 = omega (arith, terms-count) in
-      there-is i l' ∙ not-true _ (all-at (λ i. not (eligible_at b k (terms_at + 6 * i))) (get_or b 1 0) h i l')))
+  tradable-none h = rw (kept-none there 0 (length ts) (λ i l. there-is i ∙ h i (omega (arith, count))))
 
-  -- the terms as slices of six, of which any is eligible or none
-  module _ (part : List ℕ) (room : terms_at + 6 * get_or b 1 0 ≤ length b) (e : part ≡ take (terms_at + 6 * get_or b 1 0 - terms_at) (drop terms_at b)) where
-    part-count : length (cut 6 part) ≡ get_or b 1 0
-    part-count = cut-count 6 part ∙ (let l : length part ≡ 6 * get_or b 1 0 = ap length e ∙ part_length b terms_at (6 * get_or b 1 0) room in omega arith)
-
-    part-at : (i : ℕ) → i < get_or b 1 0 → get_or (cut 6 part) i [] ≡ block b (terms_at + 6 * i) 6
-    part-at i l =
-        cut-get 6 part i (omega (arith, part-count, cut-count 6 part))
-        ∙ ap (λ (x : List ℕ). block x (6 * i) 6) (e ∙ part-is b terms_at (6 * get_or b 1 0))
-        ∙ block-within b terms_at (6 * get_or b 1 0) (6 * i) 6 (omega arith)
-
-    eligible-there : (i : ℕ) → i < get_or b 1 0 → is_eligible k (get_or (cut 6 part) i []) ≡ eligible_at b k (terms_at + 6 * i)
-    unfolding eligible_at
-    eligible-there i l = ap (is_eligible k) (part-at i l)
-
-    said : (r : Bool) → MatchBool r ((i : ℕ) × (i < length (cut 6 part)) × HoldsAt (λ x. is_eligible k x ≡ true) (cut 6 part) i) (AllWithin (λ x. is_eligible k x ≡ false) (cut 6 part) 0 (length (cut 6 part)))
-        → r ≡ tradable k (book_terms b)
-    said true (i, l, h) = let l' : i < get_or b 1 0 = omega (arith, part-count) in tradable-some refl l' (sym (eligible-there i l') ∙ h [])
-    said false h =
-        tradable-none (all_of (λ i. not (eligible_at b k (terms_at + 6 * i))) (get_or b 1 0)
-        (λ i l. is-not (sym (eligible-there i l) ∙ h i [] (omega arith) (omega (arith, part-count)))))
-
-    pub tradable-said : (r : Bool) (xs : List (List ℕ)) → xs ≡ cut 6 part
-        → MatchBool r ((i : ℕ) × (i < length xs) × HoldsAt (λ x. is_eligible k x ≡ true) xs i) (AllWithin (λ x. is_eligible k x ≡ false) xs 0 (length xs)) → r ≡ tradable k (book_terms b)
-    tradable-said r xs f h =
-        said r (subst (λ (ys : List (List ℕ)). MatchBool r ((i : ℕ) × (i < length ys) × HoldsAt (λ x. is_eligible k x ≡ true) ys i) (AllWithin (λ x. is_eligible k x ≡ false) ys 0 (length ys))) f h)
+  pub tradable-said : (r : Bool)
+      → MatchBool r ((i : ℕ) × (i < length rows) × HoldsAt (λ x. is_eligible k x ≡ true) rows i) (AllWithin (λ x. is_eligible k x ≡ false) rows 0 (length rows))
+      → r ≡ tradable k ts ms
+  tradable-said true (i, l, h) = tradable-some i l (h [])
+  tradable-said false h = tradable-none (λ i l. h i [] (omega arith) l)
 
 -- ---- a basket's positions
 
@@ -184,28 +159,27 @@ module _ {limit : ℕ} {xs : List ℕ} {owed due p : ℕ} (h : Summed limit xs o
   summed-due : length xs ≤ p → total minus xs ≡ due
   summed-due l = sym (h.due_sum ∙ summed-all minus l)
 
--- the positions as a slice of their own
+-- a basket's positions
 module _ (b : List ℕ) (limit n k at : ℕ) (room : at + n ≤ length b) where
   abbrev part : List ℕ
-  part = take (at + n - at) (drop at b)
+  part = block b at n
 
   basket_is : (m : ℕ) → m ≡ n
-      → basket_fits b limit m k at ≡ (all_pass (is_within limit) part && (eqb (total plus part) (total minus part) && (eqb (total plus part + total minus part) 0 || tradable k (book_terms b))))
+      → basket_fits b limit m k at
+      ≡ (all_pass (is_within limit) part && (eqb (total plus part) (total minus part) && (eqb (total plus part + total minus part) 0 || tradable k (book_terms b) (book_marks b))))
   unfolding basket_fits
-  basket_is m e = rw (e, part-passes (is_within limit) b at (at + n - at) n (omega arith) room, part-is b at n)
-      (and_assoc (row_passes (is_within limit) b at n) (eqb (total plus (block b at n)) (total minus (block b at n))) (eqb (total plus (block b at n) + total minus (block b at n)) 0 || tradable k (book_terms b)))
+  basket_is m e =
+      rw (e, part-passes (is_within limit) b at n n refl room)
+      (and_assoc (row_passes (is_within limit) b at n) (eqb (total plus part) (total minus part)) (eqb (total plus part + total minus part) 0 || tradable k (book_terms b) (book_marks b)))
 
-  pub basket-sums : {owed due p : ℕ} → Summed limit part owed due p → length part ≤ p → (m : ℕ) → m ≡ n
-      → basket_fits b limit m k at ≡ (eqb owed due && (eqb (owed + due) 0 || tradable k (book_terms b)))
-  basket-sums h l m e = basket_is m e ∙ rw (summed-within h l, summed-owed h l, summed-due h l)
+  module _ {xs : List ℕ} (there : xs ≡ part) (m : ℕ) (e : m ≡ n) where
+    pub basket-sums : {owed due p : ℕ} → Summed limit xs owed due p → length xs ≤ p
+        → basket_fits b limit m k at ≡ (eqb owed due && (eqb (owed + due) 0 || tradable k (book_terms b) (book_marks b)))
+    basket-sums h l =
+        basket_is m e
+        ∙ ap (λ (x : List ℕ). all_pass (is_within limit) x && (eqb (total plus x) (total minus x) && (eqb (total plus x + total minus x) 0 || tradable k (book_terms b) (book_marks b)))) (sym there)
+        ∙ rw (summed-within h l, summed-owed h l, summed-due h l)
 
-  pub basket-stop : (m : ℕ) → m ≡ n → (i : ℕ) → i < length part → is_within limit (get_or part i 0) ≡ false → false ≡ basket_fits b limit m k at
-  basket-stop m e i l w = row-stop _ _ (all-stop (λ i. is_within limit (get_or part i 0)) (length part) i l w) ∙ sym (basket_is m e)
-
--- ---- the codes
-
-pub codes-there : (b : List ℕ) (o n : ℕ) (part : List ℕ) → o + 12 * n ≤ length b → part ≡ take (o + 12 * n - o) (drop o b) → grid part 0 12 (length part / 12) 12 ≡ grid b o 12 n 12
-codes-there b o n part h e =
-    let long : length part ≡ 12 * n = ap length e ∙ part_length b o (12 * n) h in
-    let k : length part / 12 ≡ n = omega arith in
-    ap (λ (m : ℕ). grid part 0 12 m 12) k ∙ grid-there b o 12 n 12 part h e (le_refl 12)
+    pub basket-stop : (i : ℕ) → i < length xs → is_within limit (get_or xs i 0) ≡ false → false ≡ basket_fits b limit m k at
+    basket-stop i l w =
+        row-stop _ _ (ap (all_pass (is_within limit)) (sym there) ∙ all-stop (λ i. is_within limit (get_or xs i 0)) (length xs) i l w) ∙ sym (basket_is m e)

@@ -9,11 +9,11 @@ use Rattle.lists.specs.Parts.{block, grid}
 use Rattle.lists.proofs.TestLaws.{and_no, and_left, and_right, all_of, all-at, all-ext}
 use Rattle.lists.proofs.TableLaws.{get_or-table}
 use Rattle.lists.proofs.PartLaws.{grid-get}
-use Rattle.rule.specs.Day.{baskets, terms_of}
-use Rattle.rule.specs.Sound.{sound, sizes_fit, all_terms_fit, receipts_fit, at_most, pairs_fit, tradable, position_limit, notice_limit, tally_limit, trade_limit}
+use Rattle.rule.specs.Day.{baskets, term_size}
+use Rattle.rule.specs.Sound.{sound, sizes_fit, receipts_fit, at_most, pairs_fit, tradable, position_limit, notice_limit, tally_limit, trade_limit}
 use Rattle.rule.specs.Layout.{book_length, terms_at, receipts_at, pairs_at, positions_at, notices_at, today_at, tally_at, plus, minus, cube, view, book_fits, sound_book}
-use Rattle.ranges.specs.Ranges.{row_passes}
-use Rattle.sound.specs.Sized.{Sized, book_terms, is_within, while_runs, basket_fits, positions_fit, tally_fits, codes_fit, given_fits, state_within, state_fits}
+use Rattle.ranges.specs.Ranges.{row_passes, terms_in_range}
+use Rattle.sound.specs.Sized.{Sized, book_terms, book_marks, is_within, while_runs, basket_fits, positions_fit, tally_fits, codes_fit, given_fits, state_within, state_fits}
 use Rattle.ranges.proofs.ScanLaws.{all-and}
 
 -- ---- tests in another order
@@ -136,7 +136,7 @@ module _ (b : List ℕ) where
   balanced k = eqb (sum (row owed k)) (sum (row due k))
 
   abbrev tradable_if : ℕ → Bool
-  tradable_if k = eqb (sum (row owed k) + sum (row due k)) 0 || tradable k (book_terms b)
+  tradable_if k = eqb (sum (row owed k) + sum (row due k)) 0 || tradable k (book_terms b) (book_marks b)
 
   positions-are : (limit : ℕ) → (at_most limit baskets n owed && at_most limit baskets n due && all_below baskets balanced && all_below baskets tradable_if) ≡ positions_fit b limit
   unfolding basket_fits
@@ -144,7 +144,7 @@ module _ (b : List ℕ) where
       ap (λ (t : Bool). t && all_below baskets balanced && all_below baskets tradable_if) (sides-are b positions_at 12 baskets n limit)
       ∙ ap (λ (t : Bool). t && all_below baskets tradable_if) (sym (all-and within balanced baskets))
       ∙ sym (all-and (λ k. within k && balanced k) tradable_if baskets)
-      ∙ all-ext _ _ baskets (λ k l. ap₂ (λ (x y : ℕ). within k && eqb x y && (eqb (x + y) 0 || tradable k (book_terms b)))
+      ∙ all-ext _ _ baskets (λ k l. ap₂ (λ (x y : ℕ). within k && eqb x y && (eqb (x + y) 0 || tradable k (book_terms b) (book_marks b)))
       (side-sum b positions_at 12 baskets n plus k l) (side-sum b positions_at 12 baskets n minus k l))
     where
       within : ℕ → Bool
@@ -184,7 +184,7 @@ module _ (b : List ℕ) where
 
 -- the tests of a book whose day has n participants and m issues
 module _ (b : List ℕ) (n m : ℕ) (e : n ≡ get_or b 0 0) (f : m ≡ get_or b 1 0) where
-  pub given_is : given_fits b ≡ (codes_fit b && (all_terms_fit m (map terms_of (grid b terms_at 6 m 6)) && (at_most 1000000000000 n m (grid b receipts_at 32 n m) && pairs_fit n (cube b pairs_at n))))
+  pub given_is : given_fits b ≡ (codes_fit b && (terms_in_range m (grid b terms_at term_size m term_size) && (at_most 1000000000000 n m (grid b receipts_at 32 n m) && pairs_fit n (cube b pairs_at n))))
   unfolding given_fits receipts_fit holds
   given_is = rw (e, f) (simp and-true)
 

@@ -3,10 +3,11 @@
 
 ghost use Rattle.std.specs.Prelude.{◌≡◌, ◌+◌, ◌*◌, ◌<◌, ◌≤◌, nat_le, slice_index, slice_index_or};
 ghost use Rattle.lists.specs.Parts.{grid};
+ghost use Rattle.rule.specs.Day.{baskets};
 ghost use Rattle.rule.specs.Sound.{position_limit, all_terms_fit, at_most, pairs_fit, tradable as tradable_of};
-ghost use Rattle.rule.specs.Layout.{book_length, cube, sound_book, positions_at};
+ghost use Rattle.rule.specs.Layout.{participants_at, issues_at, most_issues, lots_size, square, book_length, position_row, cube, sound_book};
 ghost use Rattle.ranges.specs.Ranges.{all_pass};
-ghost use Rattle.sound.specs.Sized.{Sized, book_terms, is_within, while_runs, basket_fits, positions_fit, tally_fits, codes_fit, given_fits, state_fits};
+ghost use Rattle.sound.specs.Sized.{Sized, book_terms, book_marks, is_within, while_runs, basket_fits, positions_fit, tally_fits, codes_fit, given_fits, state_fits};
 
 pub mod limits;
 
@@ -30,14 +31,13 @@ fn while_runs(runs: u64, limit: u64) -> u64
 // Whether the basket has an unmarked issue.
 pub fn tradable(book: &[u64], basket: usize) -> bool
     requires { Sized book.now }
-    ensures { result ≡ tradable_of basket (book_terms book.now) }
+    ensures { result ≡ tradable_of basket (book_terms book.now) (book_marks book.now) }
 {
     let issues = book[layout::ISSUES] as usize;
-    let (terms, _) = book[layout::TERMS..layout::TERMS + layout::TERM * issues].as_chunks();
     let kinds = baskets::kinds_of(basket as u64);
-    terms
+    layout::terms(book, issues)
         .iter()
-        .any(|terms| baskets::is_eligible(terms, &kinds))
+        .any(|issue| baskets::is_eligible(issue, &kinds))
 }
 
 // A limit of signed cells, in yen or in lots.
@@ -69,8 +69,8 @@ struct Book<'a> {
     participants: usize,
     issues: usize,
     ghost sized: { Sized cells.now },
-    ghost participants_are: { participants ≡ slice_index_or cells.now 0 0 },
-    ghost issues_are: { issues ≡ slice_index_or cells.now 1 0 },
+    ghost participants_are: { participants ≡ slice_index_or cells.now participants_at 0 },
+    ghost issues_are: { issues ≡ slice_index_or cells.now issues_at 0 },
 }
 
 impl<'a> Book<'a> {
@@ -78,23 +78,23 @@ impl<'a> Book<'a> {
     fn codes_fit(&self) -> bool
         ensures { result ≡ codes_fit self.now.cells.now }
     {
-        isin::codes_right(&self.cells[layout::CODES..layout::CODES + layout::CODE * self.issues])
+        isin::codes_right(layout::codes(self.cells, self.issues))
     }
 
     fn terms_fit(&self) -> bool
-        ensures { result ≡ all_terms_fit self.now.issues (book_terms self.now.cells.now) }
+        ensures { result ≡ all_terms_fit self.now.issues (book_terms self.now.cells.now) (book_marks self.now.cells.now) }
     {
-        ranges::terms_fit(&self.cells[layout::TERMS..layout::TERMS + layout::TERM * self.issues])
+        ranges::terms_fit(layout::terms(self.cells, self.issues))
     }
 
     // Rows of lots, one for each participant.
     fn lots_at_most(&self, at: usize, bound: u64) -> bool
-        requires there { at + 384 ≤ book_length }
+        requires there { at + lots_size ≤ book_length }
         requires small { bound ≤ 9223372036854775807 }
-        ensures { result ≡ at_most bound self.now.participants self.now.issues (grid self.now.cells.now at 32 self.now.participants self.now.issues) }
+        ensures { result ≡ at_most bound self.now.participants self.now.issues (grid self.now.cells.now at most_issues self.now.participants self.now.issues) }
     {
         let lots = Rows {
-            cells: &self.cells[at..at + layout::MOST_ISSUES * self.participants],
+            cells: layout::lots_rows(self.cells, at, self.participants),
             apart: layout::MOST_ISSUES,
             n: self.participants,
             m: self.issues,
@@ -105,11 +105,11 @@ impl<'a> Book<'a> {
     // Inlined, since the compiler then knows how few participants there are.
     #[inline(always)]
     fn pairs_fit(&self, at: usize) -> bool
-        requires { at + 1008 ≤ book_length }
+        requires { at + square * baskets ≤ book_length }
         ensures { result ≡ pairs_fit self.now.participants (cube self.now.cells.now at self.now.participants) }
     {
         ranges::pairs_fit(
-            &self.cells[at..at + layout::SQUARE * layout::BASKETS],
+            layout::squares(self.cells, at),
             layout::SQUARE,
             layout::MOST_PARTICIPANTS,
             self.participants,
@@ -128,13 +128,12 @@ impl<'a> Book<'a> {
 
     // "positions are within 10^13 and sum to zero per basket, a basket with a position has an unmarked issue": one basket.
     fn basket_fits(&self, basket: usize, limit: Limit) -> bool
-        requires { basket < 7 }
-        ensures { result ≡ basket_fits self.now.cells.now limit.most (slice_index self.now.cells.now 0) basket (positions_at + 12 * basket) }
+        requires { basket < baskets }
+        ensures { result ≡ basket_fits self.now.cells.now limit.most (slice_index self.now.cells.now participants_at) basket (position_row basket) }
     {
-        let at = layout::POSITIONS + layout::MOST_PARTICIPANTS * basket;
         let mut owed = 0;
         let mut due = 0;
-        for cell in &self.cells[at..at + self.participants] {
+        for cell in layout::positions(self.cells, basket, self.participants) {
             if !is_within(*cell, limit.most) {
                 return false;
             }
@@ -154,8 +153,7 @@ impl<'a> Book<'a> {
     fn tally_fits(&self, limit: Limit) -> bool
         ensures { result ≡ tally_fits self.now.cells.now limit.most }
     {
-        let end = layout::TALLY + layout::MOST_ISSUES * self.participants;
-        self.cells[layout::TALLY..end]
+        layout::lots_rows(self.cells, layout::TALLY, self.participants)
             .chunks_exact(layout::MOST_ISSUES)
             .all(|row| limit.holds_for(&row[..self.issues]))
     }

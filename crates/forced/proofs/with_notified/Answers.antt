@@ -1,7 +1,7 @@
 -- `forced::with_notified` meets its contract. Assumes nothing.
 use Rattle.std.proofs.Common.{◌<◌, ◌∷◌, Bool, arith, subst, sym, ◌∙◌}
 use Rattle.lists.specs.Tests.{pick}
-use Rattle.rule.specs.Day.{terms_of}
+use Rattle.rule.specs.Day.{terms_of, marks_of}
 use Rattle.value.proofs.OrderLaws.{ge_yes, ge_no}
 use Rattle.forced.specs.Choice.{takes, BestAt, BestOf}
 use Rattle.forced.proofs.ChoiceLaws.{best-kept, best-met}
@@ -22,5 +22,5 @@ returns c = λ k n l q e h.
       | else-ge-via-then-ge+else-is_eligible w ↦
           subst (λ (b : Bool). BestOf n (pick b (x.i ∷ l) l) x.best) (sym (sym (w.is_eligible.ensures k q) ∙ w.if-is_eligible.false)) h
       | else-ge-via-else-ge w ↦
-          best-kept n l x.i x.best h (omega (arith, e, c.least.ensures, ge_no x.notified.0 c.least.result.0 c.ge.ensures w.if-ge.false)) (takes k (terms_of x.issue.now))
+          best-kept n l x.i x.best h (omega (arith, e, c.least.ensures, ge_no x.notified.0 c.least.result.0 c.ge.ensures w.if-ge.false)) (takes k (terms_of x.issue.now) (marks_of x.issue.now))
     ]

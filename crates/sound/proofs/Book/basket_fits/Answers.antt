@@ -1,8 +1,8 @@
-use Rattle.std.proofs.Common.{◌+◌, ◌*◌, get_or, sym, arith}
+use Rattle.std.proofs.Common.{get_or, sym, arith}
 use Rattle.std.proofs.lemmas.Bool.Decides.{nat_tests}
 use Rattle.std.proofs.lemmas.Grind.{common_steps}
 use Rattle.lists.proofs.TestLaws.{said-no, said-yes}
-use Rattle.rule.specs.Layout.{positions_at}
+use Rattle.rule.specs.Layout.{position_row}
 use Rattle.sound.proofs.SoundLaws.{summed-none, summed-more, basket-stop, basket-sums}
 use Rattle.sound.proofs.Book.basket_fits.Goals as goal
 
@@ -12,7 +12,7 @@ loop-cell-init c = summed-none _ _
 pub returns-then-not-is_within : goal.returns-then-not-is_within
 returns-then-not-is_within c =
     let s = c.args.self.now in
-    basket-stop s.cells.now c.args.limit.most s.participants c.args.basket (positions_at + 12 * c.args.basket) (omega arith) (get_or s.cells.now 0 0) (sym s.participants_are)
+    basket-stop s.cells.now c.args.limit.most s.participants c.args.basket (position_row c.args.basket) (omega arith) c.positions-cell-items.ensures.cells (get_or s.cells.now 0 0) (sym s.participants_are)
     c.loop-cell.cell-index (omega arith) (said-no _ _ c.is_within.ensures c.if-not-is_within.true)
 
 pub loop-cell-preserved : goal.loop-cell-preserved
@@ -27,8 +27,8 @@ returns-then-owed-eq0 c =
       arith,
       nat_tests,
       common_steps,
-      basket-sums s.cells.now c.args.limit.most s.participants c.args.basket (positions_at + 12 * c.args.basket) (omega arith)
-          c.loop-cell.invariant (omega arith) (get_or s.cells.now 0 0) (sym s.participants_are),
+      basket-sums s.cells.now c.args.limit.most s.participants c.args.basket (position_row c.args.basket) (omega arith) c.positions-cell-items.ensures.cells (get_or s.cells.now 0 0) (sym s.participants_are)
+          c.loop-cell.invariant (omega arith),
     )
 
 pub returns-else-owed-eq0 : goal.returns-else-owed-eq0
@@ -38,8 +38,8 @@ returns-else-owed-eq0 c =
       arith,
       nat_tests,
       common_steps,
-      basket-sums s.cells.now c.args.limit.most s.participants c.args.basket (positions_at + 12 * c.args.basket) (omega arith)
-          c.loop-cell.invariant (omega arith) (get_or s.cells.now 0 0) (sym s.participants_are),
+      basket-sums s.cells.now c.args.limit.most s.participants c.args.basket (position_row c.args.basket) (omega arith) c.positions-cell-items.ensures.cells (get_or s.cells.now 0 0) (sym s.participants_are)
+          c.loop-cell.invariant (omega arith),
     )
 
 pub returns-else-owed-due : goal.returns-else-owed-due
@@ -49,6 +49,6 @@ returns-else-owed-due c =
       arith,
       nat_tests,
       common_steps,
-      basket-sums s.cells.now c.args.limit.most s.participants c.args.basket (positions_at + 12 * c.args.basket) (omega arith)
-          c.loop-cell.invariant (omega arith) (get_or s.cells.now 0 0) (sym s.participants_are),
+      basket-sums s.cells.now c.args.limit.most s.participants c.args.basket (position_row c.args.basket) (omega arith) c.positions-cell-items.ensures.cells (get_or s.cells.now 0 0) (sym s.participants_are)
+          c.loop-cell.invariant (omega arith),
     )

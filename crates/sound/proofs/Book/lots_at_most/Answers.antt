@@ -1,19 +1,15 @@
 -- `sound::Book::lots_at_most` meets its contract. Assumes nothing.
-use Rattle.std.proofs.Common.{ap, refl, ◌*◌, ◌∙◌, arith}
-use Rattle.lists.proofs.PartLaws.{part_length}
+use Rattle.std.proofs.Common.{ap, ◌*◌, ◌∙◌, arith}
+use Rattle.lists.specs.Parts.{grid}
+use Rattle.lists.proofs.CutLaws.{grid-within}
 use Rattle.rule.specs.Sound.{at_most}
-use Rattle.lists.proofs.CutLaws.{grid-there}
+use Rattle.rule.specs.Layout.{most_issues}
 use Rattle.sound.proofs.Book.lots_at_most.Goals as goal
 
 pub invariant_of-lots : goal.invariant_of-lots
 invariant_of-lots c =
     let s = c.args.self.now in
-    record {
-      there = record {
-        wide = omega (arith, s.sized.issues, s.issues_are);
-        room = omega (arith, part_length s.cells.now c.args.at (32 * s.participants) (omega (arith, s.sized.cells, s.sized.participants, s.participants_are, c.requires.there)));
-      };
-    }
+    record { there = record { wide = omega (arith, s.sized.issues, s.issues_are); room = omega (arith, c.lots_rows.ensures.size) } }
 
 pub returns : goal.returns
 returns c =
@@ -21,4 +17,5 @@ returns c =
     let a = c.args in
     c.rows_at_most.ensures
     ∙ ap (at_most a.bound s.participants s.issues)
-    (grid-there s.cells.now a.at 32 s.participants s.issues _ (omega (arith, s.sized.cells, s.sized.participants, s.participants_are, c.requires.there)) refl (omega (arith, s.sized.issues, s.issues_are)))
+    (ap (λ x. grid x 0 most_issues s.participants s.issues) c.lots_rows.ensures.cells
+    ∙ grid-within s.cells.now a.at (most_issues * s.participants) most_issues s.participants s.issues (omega arith) (omega (arith, s.sized.issues, s.issues_are)))
