@@ -1,6 +1,6 @@
 -- A list cut into parts of s elements, as `as_chunks` and `chunks_exact` give them; parts of parts. Assumes nothing.
-use Rattle.std.proofs.Common.{◌≡◌, ℕ, zero, suc, ◌+◌, ◌-◌, ◌*◌, ◌/◌, ◌<◌, ◌≤◌, List, [], ◌++◌, length, get_or, get_or-take, take, drop, drop-drop, refl, sym, ap, ap₂, ◌∙◌, subst, mul-zero, mul-suc, mul-le-mul_left, length-append, le_refl, arith}
-use Rattle.std.proofs.Math.Nat.{div-mul-le_self, mul-div-le, le-div_iff_mul-le, add-mul-div_left}
+use Rattle.std.proofs.Common.{◌≡◌, ℕ, zero, suc, ◌+◌, ◌-◌, ◌*◌, ◌/◌, ◌<◌, ◌≤◌, List, [], ◌++◌, length, get_or, get_or-take, take, drop, drop-drop, refl, sym, ap, ap₂, ◌∙◌, subst, mul-zero, mul-suc, mul-le-mul_left, length-append, le_refl, take_all, arith}
+use Rattle.std.proofs.Math.Nat.{div-mul-le_self, mul-div-le, le-div_iff_mul-le, mul-div_cancel_left, add-mul-div_left}
 use Rattle.std.proofs.Math.Seq.{take-append_seam, drop-append_seam}
 use Rattle.std.specs.Simd.{first_chunks}
 use Rattle.std.specs.Iterator.{AlwaysYields}
@@ -103,3 +103,9 @@ cut-rows s n xs some h =
     let z : s * p ≡ 0 + s * p = omega arith in
     get_or-take n (cut s xs) p [] k ∙ cut-get s xs p (omega arith) ∙ ap (λ (o : ℕ). block xs o s) z
     ∙ sym (get_or-table n (λ p. block xs (0 + s * p) s) p [] k))
+
+-- all of them
+pub cut-all : (s n : ℕ) (xs : List ℕ) → 0 < s → length xs ≡ s * n → cut s xs ≡ grid xs 0 s n s
+cut-all s n xs some e =
+    let count : length (cut s xs) ≡ n = cut-count s xs ∙ ap (λ (k : ℕ). k / s) e ∙ mul-div_cancel_left n some in
+    sym (take_all n (cut s xs) (omega arith)) ∙ cut-rows s n xs some (omega arith)

@@ -14,13 +14,15 @@ use lib.Seq.{take_all}
 use Rattle.lists.specs.Tables.{from, table, zeros, row}
 use Rattle.lists.specs.Folds.{joined}
 use Rattle.lists.specs.Parts.{grid, rows_at, written}
-use Rattle.lists.proofs.TableLaws.{length-zeros, get_or-table}
+use Rattle.lists.proofs.TableLaws.{length-zeros, get_or-table, length-table}
 use Rattle.lists.proofs.PartLaws.{part-back, length_over, Shape, grid-shape, table-agree, written-append}
+use Rattle.ranges.specs.Ranges.{terms_in_range}
+use Rattle.lists.proofs.CutLaws.{cut, cut-all}
 use Rattle.rule.specs.Isin.{codes_right}
-use Rattle.rule.specs.Sound.{sizes_fit, all_terms_fit, at_most, receipts_fit, pairs_fit}
-use Rattle.rule.specs.Day.{terms_of, given_of, opened}
+use Rattle.rule.specs.Sound.{sizes_fit, at_most, receipts_fit, pairs_fit}
+use Rattle.rule.specs.Day.{given_of, opened, code_size, term_size}
 use Rattle.rule.specs.Calls.{Reply, accepted, refused, open_checks}
-use Rattle.rule.specs.Layout.{book_length, codes_at, terms_at, receipts_at, pairs_at, cube_rows, stored, book_fits, open_of}
+use Rattle.rule.specs.Layout.{book_length, codes_at, terms_at, receipts_at, pairs_at, cube_rows, stored, book_fits, open_of, most_participants, most_issues, participants_at, issues_at, mark_square}
 use Rattle.rule.proofs.LayoutLaws.{terms-rows}
 use Rattle.rule.proofs.SoundLaws.{Sizes, sizes-of}
 use Rattle.rule.proofs.AnswerLaws.{answers}
@@ -51,7 +53,7 @@ joined-more {A} f k (suc n) =
     ∙ sym (append_assoc (f k) (joined (map f (from (suc k) n))) (f (k + suc n) ++ []))
 
 abbrev squares : ℕ → List ℕ → ℕ → List (ℕ × List ℕ)
-squares n pairs k = rows_at (pairs_at + 144 * k) 12 (grid pairs (n * n * k) n n n)
+squares n pairs k = rows_at (mark_square pairs_at k) most_participants (grid pairs (n * n * k) n n n)
 
 squares-more : (n : ℕ) (pairs : List ℕ) (k : ℕ) → joined (table (suc k) (squares n pairs)) ≡ joined (table k (squares n pairs)) ++ squares n pairs k
 squares-more n pairs k =
@@ -60,12 +62,12 @@ squares-more n pairs k =
     ∙ ap (λ (l : List (ℕ × List ℕ)). joined (table k (squares n pairs)) ++ l) (append-nil (squares n pairs (0 + k)) ∙ ap (squares n pairs) z)
 
 -- marks of n participants, for a book of its length
-pub record Marks (book : List ℕ) (n : ℕ) (pairs : List ℕ) : Type 0 where
+pub record PairMarks (book : List ℕ) (n : ℕ) (pairs : List ℕ) : Type 0 where
   pub size : length book ≡ book_length
   pub few : n ≤ 12
   pub marks : length pairs ≡ 7 * (n * n)
 
-pub marks_fit_book : {n m : ℕ} {codes terms receipts pairs b : List ℕ} → Lengths n m codes terms receipts pairs → length b ≡ book_length → Marks b n pairs
+pub marks_fit_book : {n m : ℕ} {codes terms receipts pairs b : List ℕ} → Lengths n m codes terms receipts pairs → length b ≡ book_length → PairMarks b n pairs
 marks_fit_book l e = record { size = e; few = l.few; marks = l.pairs_size }
 
 -- the marks of the baskets below k are copied
@@ -73,7 +75,7 @@ pub record Marked (b : List ℕ) (n : ℕ) (pairs c : List ℕ) (k : ℕ) : Type
   pub size : length c ≡ length b
   pub rows : c ≡ written b (joined (table k (squares n pairs)))
 
-module _ (b : List ℕ) (n : ℕ) (pairs : List ℕ) (m : Marks b n pairs) where
+module _ (b : List ℕ) (n : ℕ) (pairs : List ℕ) (m : PairMarks b n pairs) where
   pub marked-none : Marked b n pairs b 0
   marked-none = record { size = refl; rows = refl }
 
@@ -82,19 +84,19 @@ module _ (b : List ℕ) (n : ℕ) (pairs : List ℕ) (m : Marks b n pairs) where
   square-small = mul-le-mul m.few m.few
 
   -- a basket's marks have room
-  pub marks-of : (c : List ℕ) (k : ℕ) → length c ≡ length b → k < 7 → Copies c (pairs_at + 144 * k) 12 n n pairs (n * n * k) n
-  marks-of c k e l = record {
+  pub marks-of : (c : List ℕ) (k : ℕ) {at : ℕ} → at ≡ mark_square pairs_at k → length c ≡ length b → k < 7 → Copies c at most_participants n n pairs (n * n * k) n
+  marks-of c k place e l = record {
     wide = m.few;
-    room = omega (arith, m.size, m.few, e);
+    room = omega (arith, place, m.size, m.few, e);
     source_wide = le_refl n;
     rows = omega (arith, m.marks, mul-le-mul_left (n * n) l, mul-suc (n * n) k, mul_comm (n * n) 7);
   }
 
-  pub marked_more : {c : List ℕ} {k : ℕ} → k < 7 → Marked b n pairs c k → (d : List ℕ)
-      → d ≡ written c (rows_at (pairs_at + 144 * k) 12 (grid pairs (n * n * k) n n n)) → Marked b n pairs d (k + 1)
-  marked_more {c} {k} l h d r = record {
-    size = ap length r ∙ copied-length c (pairs_at + 144 * k) 12 n n pairs (n * n * k) n (marks-of c k h.size l) ∙ h.size;
-    rows = r ∙ ap (λ (x : List ℕ). written x (squares n pairs k)) h.rows
+  pub marked_more : {c : List ℕ} {k at : ℕ} → at ≡ mark_square pairs_at k → k < 7 → Marked b n pairs c k → (d : List ℕ)
+      → d ≡ written c (rows_at at most_participants (grid pairs (n * n * k) n n n)) → Marked b n pairs d (k + 1)
+  marked_more {c} {k} {at} place l h d r = record {
+    size = ap length r ∙ copied-length c at most_participants n n pairs (n * n * k) n (marks-of c k place h.size l) ∙ h.size;
+    rows = r ∙ ap (λ (o : ℕ). written c (rows_at o most_participants (grid pairs (n * n * k) n n n))) place ∙ ap (λ (x : List ℕ). written x (squares n pairs k)) h.rows
         ∙ sym (written-append (joined (table k (squares n pairs))) (squares n pairs k) b)
         ∙ sym (ap (written b) (squares-more n pairs k))
         ∙ sym (ap (λ (i : ℕ). written b (joined (table i (squares n pairs)))) (add-one k));
@@ -111,7 +113,7 @@ module _ (b : List ℕ) (n : ℕ) (pairs : List ℕ) (m : Marks b n pairs) where
       let e : length c ≡ length b = length-squares k (omega arith) in
       ap (λ (ws : List (ℕ × List ℕ)). length (written b ws)) (squares-more n pairs k)
       ∙ ap length (written-append (joined (table k (squares n pairs))) (squares n pairs k) b)
-      ∙ copied-length c (pairs_at + 144 * k) 12 n n pairs (n * n * k) n (marks-of c k e l) ∙ e
+      ∙ copied-length c (mark_square pairs_at k) most_participants n n pairs (n * n * k) n (marks-of c k refl e l) ∙ e
 
   pub length-marks : length (marks_written b n pairs) ≡ length b
   unfolding marks_written
@@ -120,21 +122,21 @@ module _ (b : List ℕ) (n : ℕ) (pairs : List ℕ) (m : Marks b n pairs) where
 -- ---- the whole book, table after table
 
 abbrev pub sized : List ℕ → ℕ → ℕ → List ℕ
-sized x n m = set (set x 0 n) 1 m
+sized x n m = set (set x participants_at n) issues_at m
 
 module _ (n m : ℕ) (codes terms receipts pairs b : List ℕ) (t : Lengths n m codes terms receipts pairs) (size : length b ≡ book_length) (x₀ : List ℕ) (e₀ : x₀ ≡ zeros (length b)) where
   pub length-cleared : length x₀ ≡ book_length
   length-cleared = ap length e₀ ∙ length-zeros (length b) ∙ size
 
   pub length-sized : length (sized x₀ n m) ≡ book_length
-  length-sized = length-set (set x₀ 0 n) 1 m ∙ length-set x₀ 0 n ∙ length-cleared
+  length-sized = length-set (set x₀ participants_at n) issues_at m ∙ length-set x₀ participants_at n ∙ length-cleared
 
   pub codes_room : codes_at + length codes ≤ length (sized x₀ n m)
   codes_room = omega (arith, length-sized, t.most, t.codes_size)
 
   module _ (x₁ : List ℕ) (e₁ : x₁ ≡ put_mid codes_at (codes_at + length codes - codes_at) (sized x₀ n m) codes) where
-    is₁ : x₁ ≡ written (sized x₀ n m) (rows_at codes_at 12 (grid codes 0 12 m 12))
-    is₁ = e₁ ∙ copied-whole (sized x₀ n m) codes_at 12 m codes codes_room t.codes_size
+    is₁ : x₁ ≡ written (sized x₀ n m) (rows_at codes_at code_size (grid codes 0 code_size m code_size))
+    is₁ = e₁ ∙ copied-whole (sized x₀ n m) codes_at code_size m codes codes_room t.codes_size
 
     length₁ : length x₁ ≡ book_length
     length₁ = ap length e₁ ∙ copied-size (sized x₀ n m) codes_at codes codes_room ∙ length-sized
@@ -143,18 +145,18 @@ module _ (n m : ℕ) (codes terms receipts pairs b : List ℕ) (t : Lengths n m 
     terms-room = omega (arith, length₁, t.most, t.terms_size)
 
     module _ (x₂ : List ℕ) (e₂ : x₂ ≡ put_mid terms_at (terms_at + length terms - terms_at) x₁ terms) where
-      is₂ : x₂ ≡ written x₁ (rows_at terms_at 6 (grid terms 0 6 m 6))
-      is₂ = e₂ ∙ copied-whole x₁ terms_at 6 m terms terms-room t.terms_size
+      is₂ : x₂ ≡ written x₁ (rows_at terms_at term_size (grid terms 0 term_size m term_size))
+      is₂ = e₂ ∙ copied-whole x₁ terms_at term_size m terms terms-room t.terms_size
 
       length₂ : length x₂ ≡ book_length
       length₂ = ap length e₂ ∙ copied-size x₁ terms_at terms terms-room ∙ length₁
 
-      pub receipts-room : Copies x₂ receipts_at 32 n m receipts 0 m
+      pub receipts-room : Copies x₂ receipts_at most_issues n m receipts 0 m
       receipts-room = record { wide = t.most; source_wide = le_refl m; room = omega (arith, length₂, t.few); rows = omega (arith, t.receipts_size, mul_comm m n) }
 
-      module _ (x₃ : List ℕ) (e₃ : x₃ ≡ written x₂ (rows_at receipts_at 32 (grid receipts 0 m n m))) where
+      module _ (x₃ : List ℕ) (e₃ : x₃ ≡ written x₂ (rows_at receipts_at most_issues (grid receipts 0 m n m))) where
         pub length₃ : length x₃ ≡ book_length
-        length₃ = ap length e₃ ∙ copied-length x₂ receipts_at 32 n m receipts 0 m receipts-room ∙ length₂
+        length₃ = ap length e₃ ∙ copied-length x₂ receipts_at most_issues n m receipts 0 m receipts-room ∙ length₂
 
         module _ (x₄ : List ℕ) (e₄ : x₄ ≡ marks_written x₃ n pairs) where
           pub length-all : length x₄ ≡ length b
@@ -164,9 +166,9 @@ module _ (n m : ℕ) (codes terms receipts pairs b : List ℕ) (t : Lengths n m 
           unfolding open_written
           all-written =
               e₄ ∙ ap (λ (x : List ℕ). marks_written x n pairs)
-              (e₃ ∙ ap (λ (x : List ℕ). written x (rows_at receipts_at 32 (grid receipts 0 m n m)))
-              (is₂ ∙ ap (λ (x : List ℕ). written x (rows_at terms_at 6 (grid terms 0 6 m 6)))
-              (is₁ ∙ ap (λ (x : List ℕ). written (sized x n m) (rows_at codes_at 12 (grid codes 0 12 m 12)))
+              (e₃ ∙ ap (λ (x : List ℕ). written x (rows_at receipts_at most_issues (grid receipts 0 m n m)))
+              (is₂ ∙ ap (λ (x : List ℕ). written x (rows_at terms_at term_size (grid terms 0 term_size m term_size)))
+              (is₁ ∙ ap (λ (x : List ℕ). written (sized x n m) (rows_at codes_at code_size (grid codes 0 code_size m code_size)))
               (e₀ ∙ ap zeros size))))
 
 -- ---- what is written is the opened day
@@ -180,44 +182,47 @@ module _ (n m : ℕ) (codes terms receipts pairs : List ℕ) where
   cube-same : cube_rows pairs_at (given_of n m codes terms receipts pairs).pairs ≡ joined (table 7 (squares n pairs))
   unfolding given_of
   cube-same =
-      ap joined (table-agree 7 (λ k. rows_at (pairs_at + 144 * k) 12 (row (table 7 (λ k. grid pairs (n * n * k) n n n)) k)) (squares n pairs)
-      (λ k l. ap (rows_at (pairs_at + 144 * k) 12) (get_or-table 7 (λ k. grid pairs (n * n * k) n n n) k [] l)))
+      ap joined (table-agree 7 (λ k. rows_at (mark_square pairs_at k) most_participants (row (table 7 (λ k. grid pairs (n * n * k) n n n)) k)) (squares n pairs)
+      (λ k l. ap (rows_at (mark_square pairs_at k) most_participants) (get_or-table 7 (λ k. grid pairs (n * n * k) n n n) k [] l)))
 
   pub open-written : Openable n m codes terms receipts pairs → open_written n m codes terms receipts pairs ≡ stored (zeros book_length) (opened (given_of n m codes terms receipts pairs))
   unfolding open_written marks_written given_of
   open-written h =
       let x : List ℕ = sized (zeros book_length) n m in
-      let g₁ : List (ℕ × List ℕ) = rows_at codes_at 12 (grid codes 0 12 m 12) in
-      let g₂ : List (ℕ × List ℕ) = rows_at terms_at 6 (grid terms 0 6 m 6) in
-      let g₃ : List (ℕ × List ℕ) = rows_at receipts_at 32 (grid receipts 0 m n m) in
+      let g₁ : List (ℕ × List ℕ) = rows_at codes_at code_size (grid codes 0 code_size m code_size) in
+      let g₂ : List (ℕ × List ℕ) = rows_at terms_at term_size (grid terms 0 term_size m term_size) in
+      let g₃ : List (ℕ × List ℕ) = rows_at receipts_at most_issues (grid receipts 0 m n m) in
       let g₄ : List (ℕ × List ℕ) = joined (table 7 (squares n pairs)) in
-      let shape : Shape (grid terms 0 6 m 6) m 6 = grid-shape terms 0 6 m 6 (omega arith) (omega (arith, h.terms_size)) in
+      let rows : List (List ℕ) = grid terms 0 term_size m term_size in
+      let shape : Shape rows m term_size = grid-shape terms 0 term_size m term_size (omega arith) (omega (arith, h.terms_size)) in
       written-four g₁ g₂ g₃ g₄ x
-      ∙ ap₂ (λ (t : List (List ℕ)) (c : List (ℕ × List ℕ)). written x (g₁ ++ (rows_at terms_at 6 t ++ (g₃ ++ (c ++ []))))) (sym (terms-rows (grid terms 0 6 m 6) m shape)) (sym cube-same)
+      ∙ ap₂ (λ (t : List (List ℕ)) (c : List (ℕ × List ℕ)). written x (g₁ ++ (rows_at terms_at term_size t ++ (g₃ ++ (c ++ []))))) (sym (terms-rows (given_of n m codes terms receipts pairs) rows refl refl shape)) (sym cube-same)
       ∙ sym (open-stored n m codes terms receipts pairs h)
 
 -- ---- arrays tested whole
 
 module _ {n m : ℕ} {codes terms receipts pairs : List ℕ} (l : Lengths n m codes terms receipts pairs) {r : Bool} where
-  pub codes-whole : r ≡ codes_right (grid codes 0 12 (length codes / 12) 12) → r ≡ codes_right (grid codes 0 12 m 12)
-  codes-whole e = let k : length codes / 12 ≡ m = omega (arith, l.codes_size) in e ∙ ap (λ (j : ℕ). codes_right (grid codes 0 12 j 12)) k
+  pub codes-whole : r ≡ codes_right (grid codes 0 code_size (length codes / code_size) code_size) → r ≡ codes_right (grid codes 0 code_size m code_size)
+  codes-whole e = let k : length codes / code_size ≡ m = omega (arith, l.codes_size) in e ∙ ap (λ (j : ℕ). codes_right (grid codes 0 code_size j code_size)) k
 
-  pub terms-whole : r ≡ all_terms_fit (length terms / 6) (map terms_of (grid terms 0 6 (length terms / 6) 6)) → r ≡ all_terms_fit m (map terms_of (grid terms 0 6 m 6))
-  terms-whole e = let k : length terms / 6 ≡ m = omega (arith, l.terms_size) in e ∙ ap (λ (j : ℕ). all_terms_fit j (map terms_of (grid terms 0 6 j 6))) k
+  pub terms-whole : {rows : List (List ℕ)} → rows ≡ cut term_size terms → r ≡ terms_in_range (length rows) rows → r ≡ terms_in_range m (grid terms 0 term_size m term_size)
+  terms-whole {rows} cut e =
+      let there : rows ≡ grid terms 0 term_size m term_size = cut ∙ cut-all term_size m terms (omega arith) l.terms_size in
+      e ∙ ap₂ terms_in_range (ap length there ∙ length-table m _) there
 
 -- ---- what each return of a call with the right lengths shows
 
 module _ (n m : ℕ) (codes terms receipts pairs b : List ℕ) where
-  pub wrong-code : codes_right (grid codes 0 12 m 12) ≡ false → ◌≡◌ {A = Reply × List ℕ} (refused 2, b) (open_lengths n m codes terms receipts pairs b)
+  pub wrong-code : codes_right (grid codes 0 code_size m code_size) ≡ false → ◌≡◌ {A = Reply × List ℕ} (refused 2, b) (open_lengths n m codes terms receipts pairs b)
   unfolding open_lengths open_checks given_of
   wrong-code e = search (answers, rules) depth 12
 
-  module _ (c : codes_right (grid codes 0 12 m 12) ≡ true) where
-    pub wrong-term : all_terms_fit m (map terms_of (grid terms 0 6 m 6)) ≡ false → ◌≡◌ {A = Reply × List ℕ} (refused 3, b) (open_lengths n m codes terms receipts pairs b)
+  module _ (c : codes_right (grid codes 0 code_size m code_size) ≡ true) where
+    pub wrong-term : terms_in_range m (grid terms 0 term_size m term_size) ≡ false → ◌≡◌ {A = Reply × List ℕ} (refused 3, b) (open_lengths n m codes terms receipts pairs b)
     unfolding open_lengths open_checks given_of
     wrong-term e = search (answers, rules) depth 12
 
-    module _ (t : all_terms_fit m (map terms_of (grid terms 0 6 m 6)) ≡ true) where
+    module _ (t : terms_in_range m (grid terms 0 term_size m term_size) ≡ true) where
       pub wrong-receipt : at_most 1000000000000 n m (grid receipts 0 m n m) ≡ false → ◌≡◌ {A = Reply × List ℕ} (refused 4, b) (open_lengths n m codes terms receipts pairs b)
       unfolding open_lengths open_checks given_of receipts_fit
       wrong-receipt e = search (answers, rules) depth 12

@@ -1,8 +1,9 @@
 // Opening a day: "sizes first (participants, issues), then two parallel arrays, codes and terms .. scheduled receipts .. and pair marks".
 #![tactic(auto)]
 
-ghost use Rattle.std.specs.Prelude.{◌≡◌, ◌≤◌, [], length};
-ghost use Rattle.rule.specs.Layout.{book_length, open_of};
+ghost use Rattle.std.specs.Prelude.{◌≡◌, ◌*◌, ◌≤◌, [], length};
+ghost use Rattle.rule.specs.Day.{code_size};
+ghost use Rattle.rule.specs.Layout.{most_issues, book_length, open_of};
 ghost use Rattle.reply.specs.Answers.{told};
 ghost use Rattle.opening.specs.Opened.{Lengths, marks_written, open_written, open_lengths};
 
@@ -11,11 +12,13 @@ use lists::Rows;
 use reply::Refusal;
 use sound::limits;
 
-// The codes of at most 32 issues, a cell for each byte.
-type Codes = ArrayVec<u64, 384>;
+// The codes of the most issues, a cell for each byte.
+type Codes = ArrayVec<u64, CODE_CELLS>;
+
+const CODE_CELLS: usize = layout::CODE * layout::MOST_ISSUES;
 
 fn widen(codes: &[u8], cells: &mut Codes)
-    requires { (cells.old.items ≡ []) × (length codes.now ≤ 384) }
+    requires { (cells.old.items ≡ []) × (length codes.now ≤ code_size * most_issues) }
     ensures { cells.new.items ≡ codes.now }
 {
     for byte in codes {
@@ -50,7 +53,7 @@ impl<'a> Given<'a> {
                 n: self.participants,
                 m: self.participants,
             };
-            let at = layout::PAIRS + layout::SQUARE * k;
+            let at = layout::mark_square(layout::PAIRS, k);
             marks.copy_to(&mut book[at..], layout::MOST_PARTICIPANTS);
         }
     }
@@ -83,7 +86,8 @@ impl<'a> Given<'a> {
         if !isin::codes_right(self.codes) {
             return Err(Refusal::WrongCode);
         }
-        if !ranges::terms_fit(self.terms) {
+        let (issues, _) = self.terms.as_chunks();
+        if !ranges::terms_fit(issues) {
             return Err(Refusal::WrongTerm);
         }
         let receipts = Rows {
