@@ -16,9 +16,10 @@ use Rattle.lists.proofs.AppendLaws.{over_none, over-more, joined-more}
 use Rattle.lists.proofs.TableLaws.{length-table, get_or-table, get_d_map}
 use Rattle.lists.proofs.PartLaws.{part_length, part-back, length_over, written-more, Shape, grid-shape}
 use Rattle.lists.proofs.CopyLaws.{Copies}
-use Rattle.lists.proofs.RowLaws.{made-block}
+use Rattle.lists.proofs.RowLaws.{made-of}
+use Rattle.lists.proofs.CutLaws.{grid-within}
 use Rattle.rule.specs.Calls.{Reply, accepted, refused, close_checks, tomorrow_receipts, tomorrow_pairs}
-use Rattle.rule.specs.Layout.{tally_at, today_at, plus, cube, view}
+use Rattle.rule.specs.Layout.{tally_at, today_at, plus, cube, view, most_participants, most_issues, square, lots_row, mark_square}
 use Rattle.rule.proofs.LayoutLaws.{map-shape}
 use Rattle.rule.proofs.AnswerLaws.{answers}
 use Rattle.rule.proofs.BookLaws.{SoundBook}
@@ -84,28 +85,28 @@ module _ (b : List ℕ) (at n w : ℕ) (rows : List (List ℕ)) (s : Shape rows 
 -- ---- the tally where positive
 
 abbrev tally_rows : List ℕ → List (List ℕ)
-tally_rows b = map (map plus) (grid b tally_at 32 (get_or b 0 0) (get_or b 1 0))
+tally_rows b = map (map plus) (grid b tally_at most_issues (get_or b 0 0) (get_or b 1 0))
 
 abbrev pub Received : List ℕ → List ℕ → List ℕ → ℕ → Type 0
 Received b receipts c p = Filled receipts 0 (get_or b 1 0) (tally_rows b) c p
 
 module _ (b receipts : List ℕ) (f : ReceiptsFit b receipts) where
-  tally-shape : Shape (grid b tally_at 32 (get_or b 0 0) (get_or b 1 0)) (get_or b 0 0) (get_or b 1 0)
+  tally-shape : Shape (grid b tally_at most_issues (get_or b 0 0) (get_or b 1 0)) (get_or b 0 0) (get_or b 1 0)
   tally-shape = grid-shape b tally_at 32 (get_or b 0 0) (get_or b 1 0) f.most (omega (arith, f.size, f.few))
 
   tally-plus : Shape (tally_rows b) (get_or b 0 0) (get_or b 1 0)
-  tally-plus = map-shape plus (grid b tally_at 32 (get_or b 0 0) (get_or b 1 0)) (get_or b 0 0) (get_or b 1 0) tally-shape
+  tally-plus = map-shape plus (grid b tally_at most_issues (get_or b 0 0) (get_or b 1 0)) (get_or b 0 0) (get_or b 1 0) tally-shape
 
   receipts-room : 0 + get_or b 1 0 * get_or b 0 0 ≤ length receipts
   receipts-room = omega (arith, f.room, mul_comm (get_or b 1 0) (get_or b 0 0))
 
-  tally-row : (p : ℕ) → p < get_or b 0 0 → map plus (block b (tally_at + 32 * p) (get_or b 1 0)) ≡ row (tally_rows b) p
+  tally-row : (p : ℕ) → p < get_or b 0 0 → map plus (block b (lots_row tally_at p) (get_or b 1 0)) ≡ row (tally_rows b) p
   tally-row p l =
       let n : ℕ = get_or b 0 0 in
       let m : ℕ = get_or b 1 0 in
-      let g : List (List ℕ) = grid b tally_at 32 n m in
+      let g : List (List ℕ) = grid b tally_at most_issues n m in
       sym (get_d_map (map plus) g p [] [] (omega (arith, tally-shape.rows))
-      ∙ ap (map plus) (get_or-table n (λ q. block b (tally_at + 32 * q) m) p [] l))
+      ∙ ap (map plus) (get_or-table n (λ q. block b (lots_row tally_at q) m) p [] l))
 
   pub received_none : Received b receipts receipts 0
   received_none = filled_none receipts 0 (get_or b 0 0) (get_or b 1 0) (tally_rows b) tally-plus receipts-room
@@ -113,23 +114,18 @@ module _ (b receipts : List ℕ) (f : ReceiptsFit b receipts) where
   pub receipt-to : (p : ℕ) → p < get_or b 0 0 → get_or b 1 0 * p + get_or b 1 0 ≤ length receipts
   receipt-to p l = omega (arith, room-to receipts 0 (get_or b 0 0) (get_or b 1 0) (tally_rows b) tally-plus receipts-room p l)
 
-  -- each cell of a participant's row is the tally's where positive: `lent` is the tally's row as it is lent
+  -- each cell of a participant's row is the tally's where positive
   module _ {c : List ℕ} {p : ℕ} (l : p < get_or b 0 0) (h : Received b receipts c p) where
-    abbrev lent : List ℕ
-    lent = take (tally_at + 32 * p + get_or b 1 0 - (tally_at + 32 * p)) (drop (tally_at + 32 * p) b)
-
-    pub lent-long : length lent ≡ get_or b 1 0
-    lent-long = part_length b (tally_at + 32 * p) (get_or b 1 0) (omega (arith, f.size, f.few, f.most))
-
-    pub part-long : length (take (get_or b 1 0 * p + get_or b 1 0 - get_or b 1 0 * p) (drop (get_or b 1 0 * p) c)) ≡ get_or b 1 0
+    part-long : length (take (get_or b 1 0 * p + get_or b 1 0 - get_or b 1 0 * p) (drop (get_or b 1 0 * p) c)) ≡ get_or b 1 0
     part-long = part_length c (get_or b 1 0 * p) (get_or b 1 0) (omega (arith, receipt-to p l, h.size))
 
-    pub received_more : (part : List ℕ) → length part ≡ length (take (get_or b 1 0 * p + get_or b 1 0 - get_or b 1 0 * p) (drop (get_or b 1 0 * p) c))
-        → ((i : ℕ) → i < length lent → get_or part i 0 ≡ plus (get_or lent i 0))
+    pub received_more : {tally : List ℕ} → tally ≡ block b (lots_row tally_at p) (get_or b 1 0) → length tally ≡ get_or b 1 0 → (part : List ℕ)
+        → length part ≡ length (take (get_or b 1 0 * p + get_or b 1 0 - get_or b 1 0 * p) (drop (get_or b 1 0 * p) c))
+        → ((i : ℕ) → i < length tally → get_or part i 0 ≡ plus (get_or tally i 0))
         → Received b receipts (put_mid (get_or b 1 0 * p) (get_or b 1 0 * p + get_or b 1 0 - get_or b 1 0 * p) c part) (p + 1)
-    received_more part e each =
+    received_more {tally} there long part e each =
         filled-part receipts 0 (get_or b 0 0) (get_or b 1 0) (tally_rows b) tally-plus receipts-room l (omega arith) h part
-        (made-block plus b (tally_at + 32 * p) (get_or b 1 0) (get_or b 1 0) part (omega (arith, f.size, f.few, f.most)) refl (e ∙ part-long) each ∙ tally-row p l)
+        (made-of plus tally part (e ∙ part-long ∙ sym long) each ∙ ap (map plus) there ∙ tally-row p l)
 
   pub received-all : {c : List ℕ} {p : ℕ} → get_or b 0 0 ≤ p → Received b receipts c p → c ≡ receipts_written b receipts
   unfolding receipts_written
@@ -150,42 +146,51 @@ module _ (b pairs : List ℕ) (f : PairsFit b pairs) where
   pairs-room : 0 + get_or b 0 0 * get_or b 0 0 * 7 ≤ length pairs
   pairs-room = omega (arith, f.room, mul_comm (get_or b 0 0 * get_or b 0 0) 7)
 
-  square-shape : (k : ℕ) → k < 7 → Shape (grid b (today_at + 144 * k) 12 (get_or b 0 0) (get_or b 0 0)) (get_or b 0 0) (get_or b 0 0)
+  square-shape : (k : ℕ) → k < 7 → Shape (grid b (mark_square today_at k) most_participants (get_or b 0 0) (get_or b 0 0)) (get_or b 0 0) (get_or b 0 0)
   square-shape k l = grid-shape b (today_at + 144 * k) 12 (get_or b 0 0) (get_or b 0 0) f.few (omega (arith, f.size, f.few))
 
-  today-row : (k : ℕ) → k < 7 → joined (grid b (today_at + 144 * k) 12 (get_or b 0 0) (get_or b 0 0)) ≡ row (today_rows b) k
+  today-row : (k : ℕ) → k < 7 → joined (grid b (mark_square today_at k) most_participants (get_or b 0 0) (get_or b 0 0)) ≡ row (today_rows b) k
   today-row k l =
       let n : ℕ = get_or b 0 0 in
-      sym (get_d_map joined (cube b today_at n) k [] [] (omega (arith, length-table 7 (λ k. grid b (today_at + 144 * k) 12 n n)))
-      ∙ ap joined (get_or-table 7 (λ k. grid b (today_at + 144 * k) 12 n n) k [] l))
+      sym (get_d_map joined (cube b today_at n) k [] [] (omega (arith, length-table 7 (λ k. grid b (mark_square today_at k) most_participants n n)))
+      ∙ ap joined (get_or-table 7 (λ k. grid b (mark_square today_at k) most_participants n n) k [] l))
 
   today-shape : Shape (today_rows b) 7 (get_or b 0 0 * get_or b 0 0)
   today-shape =
       let n : ℕ = get_or b 0 0 in
       record {
-        rows = length-map (cube b today_at n) joined ∙ length-table 7 (λ k. grid b (today_at + 144 * k) 12 n n);
-        cells = λ k l. ap length (sym (today-row k l)) ∙ length-joined (grid b (today_at + 144 * k) 12 n n) n n (square-shape k l);
+        rows = length-map (cube b today_at n) joined ∙ length-table 7 (λ k. grid b (mark_square today_at k) most_participants n n);
+        cells = λ k l. ap length (sym (today-row k l)) ∙ length-joined (grid b (mark_square today_at k) most_participants n n) n n (square-shape k l);
       }
 
   pub covered_none : Covered b pairs pairs 0
   covered_none = filled_none pairs 0 7 (get_or b 0 0 * get_or b 0 0) (today_rows b) today-shape pairs-room
 
   -- a basket's marks have their room on both sides
-  pub covered-room : (c : List ℕ) (k : ℕ) → length c ≡ length pairs → k < 7
-      → Copies c (get_or b 0 0 * get_or b 0 0 * k) (get_or b 0 0) (get_or b 0 0) (get_or b 0 0) b (today_at + 144 * k) 12
-  covered-room c k e l = record {
+  pub covered-room : (c : List ℕ) (k : ℕ) {marks : List ℕ} → length marks ≡ square → length c ≡ length pairs → k < 7
+      → Copies c (get_or b 0 0 * get_or b 0 0 * k) (get_or b 0 0) (get_or b 0 0) (get_or b 0 0) marks 0 most_participants
+  covered-room c k long e l = record {
     wide = le_refl (get_or b 0 0);
     room = omega (arith, room-to pairs 0 7 (get_or b 0 0 * get_or b 0 0) (today_rows b) today-shape pairs-room k l, e);
     source_wide = f.few;
-    rows = omega (arith, f.size, f.few);
+    rows = omega (arith, long, f.few);
   }
 
-  pub covered_more : {c : List ℕ} {k : ℕ} → k < 7 → Covered b pairs c k → (d : List ℕ)
-      → d ≡ written c (rows_at (get_or b 0 0 * get_or b 0 0 * k) (get_or b 0 0) (grid b (today_at + 144 * k) 12 (get_or b 0 0) (get_or b 0 0))) → Covered b pairs d (k + 1)
-  covered_more {c} {k} l h d e =
+  pub covered_more : {c : List ℕ} {k : ℕ} {marks : List ℕ} → marks ≡ block b (mark_square today_at k) square → k < 7 → Covered b pairs c k → (d : List ℕ)
+      → d ≡ written c (rows_at (get_or b 0 0 * get_or b 0 0 * k) (get_or b 0 0) (grid marks 0 most_participants (get_or b 0 0) (get_or b 0 0))) → Covered b pairs d (k + 1)
+  covered_more {c} {k} {marks} there l h d e =
       let n : ℕ = get_or b 0 0 in
+      let same : grid marks 0 most_participants n n ≡ grid b (mark_square today_at k) most_participants n n =
+      ap (λ (x : List ℕ). grid x 0 most_participants n n) there ∙ grid-within b (mark_square today_at k) square most_participants n n (omega (arith, f.few)) f.few in
+      let room : Copies c (n * n * k) n n n b (mark_square today_at k) most_participants = record {
+        wide = le_refl n;
+        room = omega (arith, room-to pairs 0 7 (n * n) (today_rows b) today-shape pairs-room k l, h.size);
+        source_wide = f.few;
+        rows = omega (arith, f.size, f.few);
+      } in
       filled_more pairs 0 7 (n * n) (today_rows b) today-shape pairs-room l (omega arith) h d
-      (e ∙ joined-written c (n * n * k) n n (grid b (today_at + 144 * k) 12 n n) (square-shape k l) (covered-room c k h.size l).room ∙ ap (over c (n * n * k)) (today-row k l))
+      (e ∙ ap (λ (rows : List (List ℕ)). written c (rows_at (n * n * k) n rows)) same
+      ∙ joined-written c (n * n * k) n n (grid b (mark_square today_at k) most_participants n n) (square-shape k l) room.room ∙ ap (over c (n * n * k)) (today-row k l))
 
   pub covered-all : {c : List ℕ} {k : ℕ} → 7 ≤ k → Covered b pairs c k → c ≡ pairs_written b pairs
   unfolding pairs_written

@@ -18,12 +18,8 @@ fn write_receipts(book: &[u64], receipts: &mut [u64])
     let issues = book[layout::ISSUES] as usize;
     for p in 0..participants {
         let to = issues * p;
-        let from = layout::TALLY + layout::MOST_ISSUES * p;
-        lists::copy_with(
-            &mut receipts[to..to + issues],
-            &book[from..from + issues],
-            signed::owed_of,
-        );
+        let tally = layout::lots(book, layout::TALLY, p, issues);
+        lists::copy_with(&mut receipts[to..to + issues], tally, signed::owed_of);
     }
 }
 
@@ -36,7 +32,7 @@ fn write_pairs(book: &[u64], pairs: &mut [u64])
     let square = participants * participants;
     for k in 0..layout::BASKETS {
         let marks = lists::Rows {
-            cells: &book[layout::TODAY + layout::SQUARE * k..],
+            cells: layout::marks(book, layout::TODAY, k),
             apart: layout::MOST_PARTICIPANTS,
             n: participants,
             m: participants,

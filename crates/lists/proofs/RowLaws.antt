@@ -3,14 +3,14 @@ use mathlib.Core.Path.{◌≡◌, refl, sym, ap, ◌∙◌, subst}
 use mathlib.Core.Logic.{◌≢◌, ◌⊎◌, inl, inr}
 use mathlib.Core.List.{List, map}
 use Prim.Native.Nat.{ℕ, ◌+◌, ◌-◌, ◌≤◌, ◌<◌}
-use native.Mathlib.Nat.{not-suc-le-zero, add-sub_cancel_left}
+use native.Mathlib.Nat.{not-suc-le-zero}
 use native.Mathlib.Decide.{dec_lt, dec_le}
 use native.Mathlib.Omega.{arith}
 use lib.ListN.{length, get_or, set, take, drop, length-set, length-map}
 use borrow.Rule.Slice.PartMut.{put_mid}
 use lib.Seq.{get_or-set_same, get_or-set_other, ext_get_or}
 use borrow.Author.Count.{below_more}
-use Rattle.lists.specs.Parts.{block, over}
+use Rattle.lists.specs.Parts.{over}
 use Rattle.lists.proofs.TableLaws.{get_d_map}
 use Rattle.lists.proofs.PartLaws.{part_length, part-back, length_over, over-in, over-out}
 use Rattle.lists.specs.Rows.{Becomes}
@@ -38,17 +38,11 @@ module _ (P : ℕ → ℕ → Type 0) where
   pub changed-all : {row₀ row : List ℕ} {i : ℕ} → length row₀ ≤ i → Changed P row₀ row i → Becomes P row₀ row
   changed-all l w = record { size = w.size; cells = λ k h. w.cells k (omega arith) }
 
--- ---- a row that was made of a lent part, `&b[at..at + n]`, cell by cell
+-- ---- a row that was made of another, cell by cell
 
-pub made-block : (g : ℕ → ℕ) (b : List ℕ) (at n m : ℕ) (part : List ℕ) → at + n ≤ length b → m ≡ n → length part ≡ m
-    → ((i : ℕ) → i < length (take (at + n - at) (drop at b)) → get_or part i 0 ≡ g (get_or (take (at + n - at) (drop at b)) i 0))
-    → part ≡ map g (block b at m)
-made-block g b at n m part fit same e each =
-    let lent : List ℕ = take (at + n - at) (drop at b) in
-    let long : length part ≡ length lent = e ∙ same ∙ sym (part_length b at n fit) in
-    ext_get_or 0 part (map g lent) (long ∙ sym (length-map lent g))
-    (λ i k. each i (omega (arith, long)) ∙ sym (get_d_map g lent i 0 0 (omega (arith, long))))
-    ∙ ap (λ (k : ℕ). map g (take k (drop at b))) (add-sub_cancel_left at n ∙ sym same)
+pub made-of : (g : ℕ → ℕ) (xs part : List ℕ) → length part ≡ length xs → ((i : ℕ) → i < length xs → get_or part i 0 ≡ g (get_or xs i 0)) → part ≡ map g xs
+made-of g xs part e each =
+    ext_get_or 0 part (map g xs) (e ∙ sym (length-map xs g)) (λ i k. each i (omega (arith, e)) ∙ sym (get_d_map g xs i 0 0 (omega (arith, e))))
 
 -- ---- a row that was lent, `&mut xs[a..a + n]`, changed, and is back
 

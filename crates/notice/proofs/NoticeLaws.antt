@@ -1,6 +1,6 @@
 -- Laws that the proofs of a notice cite. Assumes nothing.
 use mathlib.Core.Path.{◌≡◌, refl, sym, ap, ap₂, ◌∙◌}
-use Prim.Native.Nat.{ℕ, ◌+◌, ◌-◌, ◌*◌, ◌≤◌, ◌<◌}
+use Prim.Native.Nat.{ℕ, ◌+◌, ◌-◌, ◌≤◌, ◌<◌}
 use native.Mathlib.Decide.{ℕ_discrete}
 use native.Mathlib.Numerals.{add-one}
 use native.Mathlib.Omega.{arith}
@@ -21,7 +21,7 @@ use Rattle.lists.proofs.PartLaws.{part_length, part-back}
 use Rattle.rule.specs.Day.{notice_row, noticed}
 use Rattle.rule.specs.Calls.{distinct}
 use Rattle.rule.specs.Sound.{notice_limit}
-use Rattle.rule.specs.Layout.{notices_at, view, stored}
+use Rattle.rule.specs.Layout.{notices_at, view, stored, issues_at, lots_row}
 use Rattle.rule.proofs.AnswerLaws.{denied, granted}
 use Rattle.rule.proofs.BookLaws.{SoundBook}
 use Rattle.rule.proofs.NoticeLaws.{Noticeable, length-notice_row, notice-stored}
@@ -103,14 +103,13 @@ module _ (row₀ named lots : List ℕ) where
       h.entries ∙ ap₂ (λ (r : List ℕ) (n : ℕ). foldl (entry named lots) r (up_to n)) e k
 
 -- the row that was lent, and is back
-pub row_back : (b : List ℕ) (p m : ℕ) (issues lots c : List ℕ) → m ≡ get_or b 1 0 → notices_at + 32 * p + m ≤ length b
-    → c ≡ notice_row (length (take (notices_at + 32 * p + m - (notices_at + 32 * p)) (drop (notices_at + 32 * p) b))) issues lots
-    → put_mid (notices_at + 32 * p) (notices_at + 32 * p + m - (notices_at + 32 * p)) b c ≡ notice_written b p issues lots
+pub row_back : (b : List ℕ) (p m : ℕ) {at : ℕ} (issues lots c : List ℕ) → at ≡ lots_row notices_at p → m ≡ get_or b issues_at 0 → at + m ≤ length b
+    → c ≡ notice_row (length (take (at + m - at) (drop at b))) issues lots → put_mid at (at + m - at) b c ≡ notice_written b p issues lots
 unfolding notice_written
-row_back b p m issues lots c e fit h =
-    let k : c ≡ notice_row m issues lots = h ∙ ap (λ (n : ℕ). notice_row n issues lots) (part_length b (notices_at + 32 * p) m fit) in
-    part-back b (notices_at + 32 * p) m c (ap length k ∙ length-notice_row m issues lots)
-    ∙ ap₂ (λ (r : List ℕ) (n : ℕ). over b (notices_at + 32 * p) r) (k ∙ ap (λ (n : ℕ). notice_row n issues lots) e) e
+row_back b p m {at} issues lots c place e fit h =
+    let k : c ≡ notice_row m issues lots = h ∙ ap (λ (n : ℕ). notice_row n issues lots) (part_length b at m fit) in
+    part-back b at m c (ap length k ∙ length-notice_row m issues lots)
+    ∙ ap₂ (λ (r : List ℕ) (o : ℕ). over b o r) (k ∙ ap (λ (n : ℕ). notice_row n issues lots) e) place
 
 -- ---- an accepted notice, in a sound book
 

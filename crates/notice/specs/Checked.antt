@@ -1,10 +1,10 @@
 -- What a notice answers on a book that it has found sound, and what its writer asks and leaves. Assumes nothing.
-use Rattle.std.specs.Prelude.{◌≡◌, ℕ, ◌+◌, ◌*◌, ◌≤◌, ◌<◌, List, length, get_or}
+use Rattle.std.specs.Prelude.{◌≡◌, ℕ, ◌≤◌, ◌<◌, List, length, get_or}
 use Rattle.lists.specs.Tests.{first}
 use Rattle.lists.specs.Parts.{over}
 use Rattle.rule.specs.Day.{notice_row, noticed}
 use Rattle.rule.specs.Calls.{Reply, accepted, answer, notice_checks}
-use Rattle.rule.specs.Layout.{book_length, notices_at, view, stored}
+use Rattle.rule.specs.Layout.{most_participants, most_issues, issues_at, book_length, lots_row, notices_at, view, stored}
 
 -- every entry names a number below `cells`
 pub record Named (cells : ℕ) (issues : List ℕ) : Type 0 where
@@ -22,10 +22,10 @@ notice_sound b p issues lots =
 -- what the checks of a notice have shown to its writer
 pub record Written (b : List ℕ) (p : ℕ) (issues lots : List ℕ) : Type 0 where
   pub size : length b ≡ book_length
-  pub sender : p < 12
-  pub most : get_or b 1 0 ≤ 32
-  pub entries : Entries (get_or b 1 0) issues lots
+  pub sender : p < most_participants
+  pub most : get_or b issues_at 0 ≤ most_issues
+  pub entries : Entries (get_or b issues_at 0) issues lots
 
 -- the sender's row of the book
 unfoldable pub notice_written : List ℕ → ℕ → List ℕ → List ℕ → List ℕ
-notice_written b p issues lots = over b (notices_at + 32 * p) (notice_row (get_or b 1 0) issues lots)
+notice_written b p issues lots = over b (lots_row notices_at p) (notice_row (get_or b issues_at 0) issues lots)

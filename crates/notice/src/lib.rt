@@ -5,7 +5,7 @@ ghost use Rattle.std.specs.Prelude.{◌≡◌, ◌+◌, ◌*◌, ◌<◌, length
 ghost use Rattle.std.specs.List.{list_all};
 ghost use Rattle.rule.specs.Day.{notice_row};
 ghost use Rattle.rule.specs.Calls.{distinct};
-ghost use Rattle.rule.specs.Layout.{notice_of};
+ghost use Rattle.rule.specs.Layout.{most_issues, notice_of};
 ghost use Rattle.reply.specs.Answers.{told};
 ghost use Rattle.rule.proofs.BookLaws.{SoundBook};
 ghost use Rattle.notice.specs.Checked.{Named, Entries, Written, notice_sound, notice_written};
@@ -22,7 +22,7 @@ fn all_of_day(named: &[u64], issues: u64) -> bool
 
 // Is no issue named twice? Each is marked when it is met.
 fn all_distinct(named: &[u64]) -> bool
-    requires { Named 32 named.now }
+    requires { Named most_issues named.now }
     ensures { result ≡ distinct named.now }
 {
     let mut met = [false; layout::MOST_ISSUES];
@@ -62,9 +62,8 @@ impl<'a> Notified<'a> {
         ensures { book.new ≡ notice_written book.old self.now.participant self.now.named.now self.now.lots.now }
     {
         let issues = book[layout::ISSUES] as usize;
-        let at = layout::NOTICES + layout::MOST_ISSUES * (self.participant as usize);
-        let end = at + issues;
-        self.write_row(&mut book[at..end]);
+        let at = layout::lots_row(layout::NOTICES, self.participant as usize);
+        self.write_row(&mut book[at..at + issues]);
     }
 
     // In a sound book.

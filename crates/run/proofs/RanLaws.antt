@@ -20,7 +20,7 @@ use Rattle.rule.specs.Value.{Terms}
 use Rattle.rule.specs.Day.{Day, mark}
 use Rattle.rule.specs.Sound.{all_terms_fit}
 use Rattle.rule.specs.Run.{Allocation, used, allocations, ran, covered_from, covered_to, covered_pair, lots_from, lots_to, match_list, line_list, lines_from}
-use Rattle.rule.specs.Layout.{book_length, terms_at, positions_at, notices_at, today_at, tally_at, view, stored, signed, signed_rows, tables_of}
+use Rattle.rule.specs.Layout.{book_length, terms_at, positions_at, notices_at, today_at, tally_at, view, stored, signed, signed_rows, tables_of, position_cell, lots_cell, mark_cell}
 use Rattle.rule.proofs.BookLaws.{SoundBook}
 use Rattle.rule.proofs.LayoutLaws.{Shaped, Holds, view-shaped, view-holds, signed-cell, given-kept, stored_is, outside-sizes, outside-position, outside-notice, outside-pair, outside-tally}
 use Rattle.rule.proofs.RunLaws.{Runnable}
@@ -36,7 +36,6 @@ use Rattle.run_usable.specs.declared.Stock.{Stock}
 use Rattle.run_post.specs.declared.listing.Lists.{Lists}
 use Rattle.run_post.specs.Listed.{SameLists}
 use Rattle.run_post.proofs.ListingLaws.{same-lists, same-then}
-use Rattle.run_post.specs.Booked.{position_at, mark_at, tally_of}
 use Rattle.run_order.specs.Sizes.{participants_in, issues_in, Sized}
 use Rattle.run_basket.specs.Running.{done_to, BookedTo, Start, Running, Stocked, Done, BasketAsks}
 use Rattle.run.specs.Ran.{BasketsAsk, BasketsDone, Cleared, Ran}
@@ -198,7 +197,7 @@ module _ (b draw : List ℕ) (s : SoundBook b) (h : Runnable (view b) draw) (c d
   positions-stand k p l x =
       let o : ℕ → ℕ → ℕ = λ k p. cell y.state.owed k p - covered_from done k p in
       let u : ℕ → ℕ → ℕ = λ k p. cell y.state.due k p - covered_to done k p in
-      else-kept (position_at k p) (λ z. omega arith) (λ r i z m g. omega (arith, few)) ∙ w.positions k p l x
+      else-kept (position_cell k p) (λ z. omega arith) (λ r i z m g. omega (arith, few)) ∙ w.positions k p l x
       ∙ sym (signed-cell (table 7 (λ k. table q (λ p. o k p))) (table 7 (λ k. table q (λ p. u k p))) 7 q k p shape.owed l x
       ∙ ap₂ signed (ap (λ (r : List ℕ). get_or r p 0) (get_or-table 7 (λ k. table q (λ p. o k p)) k [] l) ∙ get_or-table q (λ p. o k p) p 0 x)
       (ap (λ (r : List ℕ). get_or r p 0) (get_or-table 7 (λ k. table q (λ p. u k p)) k [] l) ∙ get_or-table q (λ p. u k p) p 0 x))
@@ -207,7 +206,7 @@ module _ (b draw : List ℕ) (s : SoundBook b) (h : Runnable (view b) draw) (c d
   unfolding ran view
   today-stand k l r t x z =
       let f : ℕ → ℕ → ℕ → ℕ = λ k d r. pick (ltb 0 (covered_pair done k d r)) 1 (mark y.state.today k d r) in
-      else-kept (mark_at k r t) (λ g. omega arith) (λ p i m n g. omega (arith, few, most)) ∙ w.marks k r t l x z
+      else-kept (mark_cell today_at k r t) (λ g. omega arith) (λ p i m n g. omega (arith, few, most)) ∙ w.marks k r t l x z
       ∙ sym (ap (λ (o : List (List ℕ)). cell o r t) (get_or-table 7 (λ k. table q (λ d. table q (λ r. f k d r))) k [] l)
       ∙ ap (λ (o : List ℕ). get_or o t 0) (get_or-table q (λ d. table q (λ r. f k d r)) r [] x) ∙ get_or-table q (λ r'. f k r r') t 0 z)
 
@@ -217,7 +216,7 @@ module _ (b draw : List ℕ) (s : SoundBook b) (h : Runnable (view b) draw) (c d
       let out : ℕ → ℕ → ℕ = λ p i. cell y.state.delivered p i + lots_from done p i in
       let back : ℕ → ℕ → ℕ = λ p i. cell y.state.received p i + lots_to done p i in
       let n : ℕ = issues_in b in
-      else-kept (tally_of p i) (λ g. omega arith) (λ r t m o g. omega (arith, few, most)) ∙ w.tally p i l x
+      else-kept (lots_cell tally_at p i) (λ g. omega arith) (λ r t m o g. omega (arith, few, most)) ∙ w.tally p i l x
       ∙ sym (signed-cell (table q (λ p. table n (λ i. out p i - back p i))) (table q (λ p. table n (λ i. back p i - out p i))) q n p i shape.delivered l x
       ∙ ap₂ signed (ap (λ (r : List ℕ). get_or r i 0) (get_or-table q (λ p. table n (λ i. out p i - back p i)) p [] l) ∙ get_or-table n (λ i. out p i - back p i) i 0 x)
       (ap (λ (r : List ℕ). get_or r i 0) (get_or-table q (λ p. table n (λ i. back p i - out p i)) p [] l) ∙ get_or-table n (λ i. back p i - out p i) i 0 x))

@@ -19,12 +19,12 @@ use Rattle.rule.specs.Filling.{all_lots}
 use Rattle.rule.specs.Day.{Day, mark}
 use Rattle.rule.specs.Run.{Allocation, covered_from, covered_to, covered_pair, lots_from, lots_to}
 use Rattle.rule.specs.Sound.{position_limit, tally_limit}
-use Rattle.rule.specs.Layout.{view, signed}
+use Rattle.rule.specs.Layout.{view, signed, position_cell, lots_cell, tally_at, mark_cell, today_at}
 use Rattle.rule.proofs.BookLaws.{SoundBook}
 use Rattle.rule.proofs.LayoutLaws.{Shaped, Holds, view-shaped, view-signed, view-holds, signed-cell}
 use Rattle.rule.proofs.RunLaws.{Runnable, Allocated, covered-from, covered-to}
 use Rattle.rule.proofs.RunLots.{lots-from-most, lots-to-most}
-use Rattle.run_post.specs.Booked.{position_at, mark_at, tally_of, YenMoved, LotsMoved}
+use Rattle.run_post.specs.Booked.{YenMoved, LotsMoved}
 use Rattle.run_order.specs.Sizes.{participants_in, issues_in}
 use Rattle.run_basket.specs.Running.{out_of, back_to, BookedTo}
 use Rattle.run_basket.proofs.DoneLaws.{Part, part-total}
@@ -204,22 +204,22 @@ module _ (b : List ℕ) (s : SoundBook b) where
     module _ (c c' c'' lots : List ℕ) (w : BookedTo b done c) (u : YenMoved c c' K D R x) (v : LotsMoved c' c'' D R lots) (size : length lots ≡ issues_in b)
         (same : (i : ℕ) → get_or lots i 0 ≡ all_lots a.filled i) where
       -- a place outside the tally's two rows
-      lots-kept : (j : ℕ) → ((i : ℕ) → i < issues_in b → j ≢ tally_of D i) → ((i : ℕ) → i < issues_in b → j ≢ tally_of R i) → get_or c'' j 0 ≡ get_or c' j 0
+      lots-kept : (j : ℕ) → ((i : ℕ) → i < issues_in b → j ≢ lots_cell tally_at D i) → ((i : ℕ) → i < issues_in b → j ≢ lots_cell tally_at R i) → get_or c'' j 0 ≡ get_or c' j 0
       lots-kept j f g = v.kept j (λ i l. f i (omega arith)) (λ i l. g i (omega arith))
 
       -- a position and a mark are none of the tally's
-      position-kept : (k p : ℕ) → k < 7 → p < n → get_or c'' (position_at k p) 0 ≡ get_or c' (position_at k p) 0
-      position-kept k p l q = lots-kept (position_at k p) (λ i m e. omega (arith, few)) (λ i m e. omega (arith, few))
+      position-kept : (k p : ℕ) → k < 7 → p < n → get_or c'' (position_cell k p) 0 ≡ get_or c' (position_cell k p) 0
+      position-kept k p l q = lots-kept (position_cell k p) (λ i m e. omega (arith, few)) (λ i m e. omega (arith, few))
 
-      mark-kept : (k d r : ℕ) → k < 7 → d < n → r < n → get_or c'' (mark_at k d r) 0 ≡ get_or c' (mark_at k d r) 0
-      mark-kept k d r l q m = lots-kept (mark_at k d r) (λ i _ e. omega (arith, few)) (λ i _ e. omega (arith, few))
+      mark-kept : (k d r : ℕ) → k < 7 → d < n → r < n → get_or c'' (mark_cell today_at k d r) 0 ≡ get_or c' (mark_cell today_at k d r) 0
+      mark-kept k d r l q m = lots-kept (mark_cell today_at k d r) (λ i _ e. omega (arith, few)) (λ i _ e. omega (arith, few))
 
       -- and a tally is no position and no mark
-      tally-kept : (p i : ℕ) → p < n → i < issues_in b → get_or c' (tally_of p i) 0 ≡ get_or c (tally_of p i) 0
-      tally-kept p i l m = u.kept (tally_of p i) (λ e. omega (arith, few, z.basket, deliverer)) (λ e. omega (arith, few, z.basket, receiver)) (λ e. omega (arith, few, z.basket, deliverer, receiver))
+      tally-kept : (p i : ℕ) → p < n → i < issues_in b → get_or c' (lots_cell tally_at p i) 0 ≡ get_or c (lots_cell tally_at p i) 0
+      tally-kept p i l m = u.kept (lots_cell tally_at p i) (λ e. omega (arith, few, z.basket, deliverer)) (λ e. omega (arith, few, z.basket, receiver)) (λ e. omega (arith, few, z.basket, deliverer, receiver))
 
       abbrev Position : ℕ → ℕ → Type 0
-      Position k p = get_or c'' (position_at k p) 0 ≡ signed (cell y.state.owed k p - covered_from next k p) (cell y.state.due k p - covered_to next k p)
+      Position k p = get_or c'' (position_cell k p) 0 ≡ signed (cell y.state.owed k p - covered_from next k p) (cell y.state.due k p - covered_to next k p)
 
       one : (k p : ℕ) → k < 7 → p < n → min (cell y.state.owed k p) (cell y.state.due k p) ≡ 0
       unfolding view
@@ -255,7 +255,7 @@ module _ (b : List ℕ) (s : SoundBook b) where
           other : (K ≡ k → D ≢ p) → (K ≡ k → R ≢ p) → Position k p
           other f g =
               position-kept k p l q
-              ∙ u.kept (position_at k p) (λ e. f (omega (arith, few, deliverer)) (omega (arith, few, deliverer))) (λ e. g (omega (arith, few, receiver)) (omega (arith, few, receiver))) (λ e. omega (arith, few))
+              ∙ u.kept (position_cell k p) (λ e. f (omega (arith, few, deliverer)) (omega (arith, few, deliverer))) (λ e. g (omega (arith, few, receiver)) (omega (arith, few, receiver))) (λ e. omega (arith, few))
               ∙ w.positions k p l q
               ∙ ap₂ (λ (i j : ℕ). signed (cell y.state.owed k p - i) (cell y.state.due k p - j)) (sym (from-else k p f)) (sym (to-else k p g))
 
@@ -266,7 +266,7 @@ module _ (b : List ℕ) (s : SoundBook b) where
           cases (no e) f g = other (λ i. absurd (e i)) (λ i. absurd (e i))
 
       abbrev Mark : ℕ → ℕ → ℕ → Type 0
-      Mark k d r = get_or c'' (mark_at k d r) 0 ≡ pick (ltb 0 (covered_pair next k d r)) 1 (mark y.state.today k d r)
+      Mark k d r = get_or c'' (mark_cell today_at k d r) 0 ≡ pick (ltb 0 (covered_pair next k d r)) 1 (mark y.state.today k d r)
 
       marks-here : Mark K D R
       marks-here =
@@ -280,7 +280,7 @@ module _ (b : List ℕ) (s : SoundBook b) where
           other : (K ≡ k → D ≡ d → R ≢ r) → Mark k d r
           other f =
               mark-kept k d r l p q
-              ∙ u.kept (mark_at k d r) (λ e. omega (arith, few, z.basket, deliverer)) (λ e. omega (arith, few, z.basket, receiver))
+              ∙ u.kept (mark_cell today_at k d r) (λ e. omega (arith, few, z.basket, deliverer)) (λ e. omega (arith, few, z.basket, receiver))
               (λ e. f (omega (arith, few, deliverer, receiver)) (omega (arith, few, deliverer, receiver)) (omega (arith, few, deliverer, receiver)))
               ∙ w.marks k d r l p q
               ∙ ap (λ (i : ℕ). pick (ltb 0 i) 1 (mark y.state.today k d r)) (sym (pair-else k d r f))
@@ -292,7 +292,7 @@ module _ (b : List ℕ) (s : SoundBook b) where
           cases (no e) f g = other (λ i. absurd (e i))
 
       abbrev Tally : ℕ → ℕ → Type 0
-      Tally p i = get_or c'' (tally_of p i) 0 ≡ signed (out_of b next p i - back_to b next p i) (back_to b next p i - out_of b next p i)
+      Tally p i = get_or c'' (lots_cell tally_at p i) 0 ≡ signed (out_of b next p i - back_to b next p i) (back_to b next p i - out_of b next p i)
 
       -- the two rows are apart
       tally-out-of : (i : ℕ) → i < issues_in b → Tally D i
@@ -316,7 +316,7 @@ module _ (b : List ℕ) (s : SoundBook b) where
           cases (yes e) f = subst (λ (q : ℕ). Tally q i) e (tally-out-of i k)
           cases (no e) (yes f) = subst (λ (q : ℕ). Tally q i) f (tally-back-to i k)
           cases (no e) (no f) =
-              lots-kept (tally_of p i) (λ j m q. e (omega (arith, most))) (λ j m q. f (omega (arith, most)))
+              lots-kept (lots_cell tally_at p i) (λ j m q. e (omega (arith, most))) (λ j m q. f (omega (arith, most)))
               ∙ tally-kept p i l k ∙ w.tally p i l k
               ∙ ap₂ (λ (p q : ℕ). signed (p - q) (q - p)) (omega (arith, out-else p i e)) (omega (arith, back-else p i f))
 

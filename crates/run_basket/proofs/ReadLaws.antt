@@ -22,12 +22,11 @@ use Rattle.rule.specs.Allocable.{allocable}
 use Rattle.rule.specs.Matching.{plan}
 use Rattle.rule.specs.Day.{Day, terms_of}
 use Rattle.rule.specs.Run.{Allocation, used_table, allocate, basket_plan, basket, allocable_of, covered_from, covered_to}
-use Rattle.rule.specs.Layout.{terms_at, receipts_at, pairs_at, positions_at, notices_at, today_at, plus, minus, view, signed}
+use Rattle.rule.specs.Layout.{terms_at, receipts_at, pairs_at, positions_at, notices_at, today_at, plus, minus, view, signed, position_cell}
 use Rattle.rule.proofs.BookLaws.{SoundBook}
 use Rattle.matching.proofs.ListLaws.{block-block}
 use Rattle.value.specs.Rated.{terms_in as terms_of_block}
 use Rattle.run_usable.specs.Stock.{terms_in, allocable_in}
-use Rattle.run_post.specs.Booked.{position_at}
 use Rattle.run_order.specs.Sizes.{participants_in, issues_in, Sized}
 use Rattle.run_match.specs.Filled.{positions_in, plan_in, book_terms}
 use Rattle.run_basket.specs.Running.{done_to, BookedTo}
@@ -124,7 +123,7 @@ module _ (b : List ℕ) (s : SoundBook b) (done : List Allocation) (c : List ℕ
 
   -- a basket of which nothing is covered yet
   module _ (k : ℕ) (basket : k < 7) (fresh : (p : ℕ) → (covered_from done k p ≡ 0) × (covered_to done k p ≡ 0)) where
-    position-kept : (p : ℕ) → p < participants_in b → get_or c (position_at k p) 0 ≡ get_or b (position_at k p) 0
+    position-kept : (p : ℕ) → p < participants_in b → get_or c (position_cell k p) 0 ≡ get_or b (position_cell k p) 0
     position-kept p l =
         w.positions k p basket l
         ∙ ap₂ (λ (x z : ℕ). signed (cell (view b).state.owed k p - x) (cell (view b).state.due k p - z)) ((fresh p).0 ∙ sym (none_from k p)) ((fresh p).1 ∙ sym (none-to k p))

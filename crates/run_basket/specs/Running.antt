@@ -9,7 +9,7 @@ use Rattle.rule.specs.Day.{Day, mark}
 use Rattle.rule.specs.Run.{Allocation, used, used_table, allocate, basket_plan, basket, covered_from, covered_to, covered_pair, lots_from, lots_to, match_list, line_list}
 use Rattle.rule.specs.Entries.{match_size, line_size}
 use Rattle.rule.specs.Calls.{most_matches, most_lines}
-use Rattle.rule.specs.Layout.{book_length, view, signed}
+use Rattle.rule.specs.Layout.{book_length, view, signed, position_cell, lots_cell, tally_at, mark_cell, today_at}
 use Rattle.rule.proofs.BookLaws.{SoundBook}
 use Rattle.rule.proofs.DrawLaws.{EachOnce}
 use Rattle.matching.specs.Plans.{match_of}
@@ -17,7 +17,6 @@ use Rattle.matching.specs.declared.Match.{Match as Entry}
 use Rattle.run_usable.specs.Stock.{inside_of, Allocable}
 use Rattle.run_usable.specs.declared.Stock.{Stock}
 use Rattle.run_post.specs.declared.listing.Lists.{Lists}
-use Rattle.run_post.specs.Booked.{position_at, mark_at, tally_of}
 use Rattle.run_order.specs.Sizes.{participants_in, issues_in}
 use Rattle.run_order.specs.Orders.{Orders}
 use Rattle.run_match.specs.Filled.{RatesOf}
@@ -40,9 +39,9 @@ done_at y draw k j = done_to y draw k ++ done_in y draw k j
 
 -- a place that no match changes
 pub record Elsewhere (b : List ℕ) (j : ℕ) : Type 0 where
-  pub positions : (k p : ℕ) → k < 7 → p < participants_in b → j ≢ position_at k p
-  pub marks : (k d r : ℕ) → k < 7 → d < participants_in b → r < participants_in b → j ≢ mark_at k d r
-  pub tally : (p i : ℕ) → p < participants_in b → i < issues_in b → j ≢ tally_of p i
+  pub positions : (k p : ℕ) → k < 7 → p < participants_in b → j ≢ position_cell k p
+  pub marks : (k d r : ℕ) → k < 7 → d < participants_in b → r < participants_in b → j ≢ mark_cell today_at k d r
+  pub tally : (p i : ℕ) → p < participants_in b → i < issues_in b → j ≢ lots_cell tally_at p i
 
 -- lots delivered and received, those of the day so far and of the matches
 abbrev pub out_of : List ℕ → List Allocation → ℕ → ℕ → ℕ
@@ -55,11 +54,11 @@ back_to b done p i = cell (view b).state.received p i + lots_to done p i
 pub record BookedTo (b : List ℕ) (done : List Allocation) (c : List ℕ) : Type 0 where
   pub size : length c ≡ book_length
   pub positions : (k p : ℕ) → k < 7 → p < participants_in b
-      → get_or c (position_at k p) 0 ≡ signed (cell (view b).state.owed k p - covered_from done k p) (cell (view b).state.due k p - covered_to done k p)
+      → get_or c (position_cell k p) 0 ≡ signed (cell (view b).state.owed k p - covered_from done k p) (cell (view b).state.due k p - covered_to done k p)
   pub marks : (k d r : ℕ) → k < 7 → d < participants_in b → r < participants_in b
-      → get_or c (mark_at k d r) 0 ≡ pick (ltb 0 (covered_pair done k d r)) 1 (mark (view b).state.today k d r)
+      → get_or c (mark_cell today_at k d r) 0 ≡ pick (ltb 0 (covered_pair done k d r)) 1 (mark (view b).state.today k d r)
   pub tally : (p i : ℕ) → p < participants_in b → i < issues_in b
-      → get_or c (tally_of p i) 0 ≡ signed (out_of b done p i - back_to b done p i) (back_to b done p i - out_of b done p i)
+      → get_or c (lots_cell tally_at p i) 0 ≡ signed (out_of b done p i - back_to b done p i) (back_to b done p i - out_of b done p i)
   pub kept : (j : ℕ) → Elsewhere b j → get_or c j 0 ≡ get_or b j 0
 
 -- ---- all of it

@@ -1,8 +1,9 @@
 -- Laws of writing the issues of a match one after the other. Assumes nothing.
+use Rattle.rule.specs.Layout.{lots_cell, tally_at}
 use Rattle.std.proofs.Common.{◌≡◌, ℕ, ◌+◌, ◌<◌, ◌≤◌, ◌≢◌, List, length, get_or, set, refl, ap, ◌∙◌, subst, not-suc-le-zero, arith, length-set, get_or-set_other, get_or-set_same, below_more}
 use Rattle.matching.specs.declared.Match.{Match}
 use Rattle.run_post.specs.declared.listing.Lists.{Lists}
-use Rattle.run_post.specs.Booked.{tally_of, IssueMoved, LotsMovedTo}
+use Rattle.run_post.specs.Booked.{IssueMoved, LotsMovedTo}
 use Rattle.run_post.specs.Listed.{Lined, LineAdded, LinesOnly}
 use Rattle.run_post.specs.Issues.{IssueUsed, UsedTo, IssueWritable, IssueWritten, IssuesWritable, IssuesWritten}
 use Rattle.run_post.proofs.BookingLaws.{none-moved, lots-none, lots-more}
@@ -43,7 +44,7 @@ then-only a b = record { matches = b.matches ∙ a.matches; match_count = b.matc
 pub written_none : {b : List ℕ} (used : List ℕ) (s : Lists) (m : Match) (i : ℕ) {lots : ℕ} → lots ≡ 0 → ((j : ℕ) → get_or b j 0 < 18446744073709551616)
     → IssueWritten b used s m i lots b used s
 written_none {b} used s m i e words = record {
-  moved = none-moved b m.deliverer m.receiver i e (words (tally_of m.deliverer i)) (words (tally_of m.receiver i));
+  moved = none-moved b m.deliverer m.receiver i e (words (lots_cell tally_at m.deliverer i)) (words (lots_cell tally_at m.receiver i));
   gone = none-used used i e;
   listed = lined-none s.lines.now s.counts.lines s.counts.matches i e;
   only = none-only s;

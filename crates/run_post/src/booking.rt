@@ -18,18 +18,11 @@ pub fn move_yen(book: &mut [u64], basket: usize, m: Match, covered: Yen)
     requires { Bookable book.old basket m.deliverer m.receiver }
     ensures { YenMoved book.old book.new basket m.deliverer m.receiver covered.0 }
 {
-    let positions = layout::POSITIONS + layout::MOST_PARTICIPANTS * basket;
-    shift(
-        &mut *book,
-        positions + m.deliverer,
-        positions + m.receiver,
-        covered.0,
-    );
+    let from = layout::position(basket, m.deliverer);
+    let to = layout::position(basket, m.receiver);
+    shift(&mut *book, from, to, covered.0);
     if covered > Yen(0) {
-        let pair = layout::TODAY
-            + layout::SQUARE * basket
-            + layout::MOST_PARTICIPANTS * m.deliverer
-            + m.receiver;
+        let pair = layout::mark(layout::TODAY, basket, m.deliverer, m.receiver);
         book[pair] = 1;
     }
 }
@@ -39,7 +32,7 @@ pub fn move_lots(book: &mut [u64], m: Match, issue: usize, lots: Lots)
     requires { BookableLots book.old m.deliverer m.receiver issue }
     ensures { IssueMoved book.old book.new m.deliverer m.receiver issue lots.0 }
 {
-    let delivered = layout::TALLY + layout::MOST_ISSUES * m.deliverer + issue;
-    let received = layout::TALLY + layout::MOST_ISSUES * m.receiver + issue;
+    let delivered = layout::lots_row(layout::TALLY, m.deliverer) + issue;
+    let received = layout::lots_row(layout::TALLY, m.receiver) + issue;
     shift(book, received, delivered, lots.0);
 }

@@ -21,8 +21,8 @@ impl Lists<'_> {
         requires { MatchRoom self.old.matches.now self.old.counts.matches }
         ensures { MatchAdded self.old self.new basket m f }
     {
-        let at = 7 * self.counts.matches;
-        let end = at + 7;
+        let at = layout::MATCH * self.counts.matches;
+        let end = at + layout::MATCH;
         self.matches[at..end].copy_from_slice(&[
             basket,
             m.deliverer as u64,
@@ -40,8 +40,8 @@ impl Lists<'_> {
         requires { LineRoom self.old.lines.now self.old.counts.lines }
         ensures { LineAdded self.old self.new issue lots.0 }
     {
-        let at = 3 * self.counts.lines;
-        let end = at + 3;
+        let at = layout::LINE * self.counts.lines;
+        let end = at + layout::LINE;
         let number = self.counts.matches as u64;
         self.lines[at..end].copy_from_slice(&[number, issue, lots.0]);
         self.counts.lines = self.counts.lines + 1;

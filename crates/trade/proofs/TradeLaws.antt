@@ -1,12 +1,12 @@
 -- Laws that the proofs of a trade cite. Assumes nothing.
-use Rattle.std.proofs.Common.{◌≡◌, ℕ, ◌+◌, ◌-◌, ◌*◌, ◌%◌, ◌<◌, ◌≤◌, ◌≢◌, Bool, true, false, eqb, ltb, List, get_or, sym, refl, ap, ◌∙◌, ap₂, mod-lt, min, arith, lit<, le-ltb, lt-ltb}
+use Rattle.std.proofs.Common.{◌≡◌, ℕ, ◌+◌, ◌-◌, ◌<◌, ◌≤◌, ◌≢◌, Bool, true, false, eqb, ltb, List, get_or, sym, refl, ap, ◌∙◌, ap₂, mod-lt, min, arith, lit<, le-ltb, lt-ltb}
 use Rattle.std.specs.Ordering.{nat_cmp, is_gt}
 use Rattle.std.proofs.lemmas.Bool.Decides.{nat_tests}
 use Rattle.lists.specs.Tables.{cell}
 use Rattle.rule.specs.Day.{traded}
 use Rattle.rule.specs.Calls.{afterwards}
 use Rattle.rule.specs.Sound.{tradable, position_limit, trade_limit}
-use Rattle.rule.specs.Layout.{positions_at, plus, minus, view, stored}
+use Rattle.rule.specs.Layout.{position_cell, plus, minus, view, stored}
 use Rattle.rule.proofs.LayoutLaws.{Readable, plus-signed, minus-signed}
 use Rattle.rule.proofs.BookLaws.{SoundBook, view-owed, view-due}
 use Rattle.rule.proofs.TradeLaws.{Tradeable}
@@ -36,7 +36,7 @@ bought_of c x w m =
 
 -- ---- a position of a sound book
 
-module _ (b : List ℕ) (s : SoundBook b) (k p at yen : ℕ) (basket : k < 7) (participant : p < get_or b 0 0) (place : at ≡ positions_at + 12 * k + p) where
+module _ (b : List ℕ) (s : SoundBook b) (k p at yen : ℕ) (basket : k < 7) (participant : p < get_or b 0 0) (place : at ≡ position_cell k p) where
   abbrev c : ℕ
   c = get_or b at 0
 
@@ -96,28 +96,28 @@ module _ (b : List ℕ) (s : SoundBook b) (seller buyer k yen : ℕ) (h : Tradea
   unfolding view
   count-is = refl
 
-  pub trade-moves : moved_of b (positions_at + 12 * k + seller) (positions_at + 12 * k + buyer) yen ≡ stored b (traded (view b) seller buyer k yen)
+  pub trade-moves : moved_of b (position_cell k seller) (position_cell k buyer) yen ≡ stored b (traded (view b) seller buyer k yen)
   unfolding moved_of
   trade-moves =
       let r : Readable b = s.readable in
-      let cs : ℕ = get_or b (positions_at + 12 * k + seller) 0 in
-      let cb : ℕ = get_or b (positions_at + 12 * k + buyer) 0 in
-      let ms : Movable cs yen = movable b s k seller (positions_at + 12 * k + seller) yen h.basket sells refl l in
-      let mb : Movable cb yen = movable b s k buyer (positions_at + 12 * k + buyer) yen h.basket buys refl l in
+      let cs : ℕ = get_or b (position_cell k seller) 0 in
+      let cb : ℕ = get_or b (position_cell k buyer) 0 in
+      let ms : Movable cs yen = movable b s k seller (position_cell k seller) yen h.basket sells refl l in
+      let mb : Movable cb yen = movable b s k buyer (position_cell k buyer) yen h.basket buys refl l in
       sym (trade-stored b r seller buyer k yen _ _ _ h
       (sym (rw (view-owed b r k seller h.basket sells, view-due b r k seller h.basket sells) (raise-cell cs yen (r.words _) ms.owed ms.due l)))
       (sym (rw (view-owed b r k buyer h.basket buys, view-due b r k buyer h.basket buys) (lower-cell cb _ yen (r.words _) (mod-lt _ (lit< tt)) mb.owed mb.due l (back cb yen (r.words _) l))))
       (ap (λ (n : ℕ). n + 1) (sym count-is)))
 
 module _ (b : List ℕ) (seller buyer k yen : ℕ) (w : Between b seller buyer k yen) where
-  tradeable : tradable k (view b).given.terms ≡ true
+  tradeable : tradable k (view b).given.terms (view b).given.marks ≡ true
       → afterwards (cell (view b).state.owed k seller) (cell (view b).state.due k seller) yen ≤ position_limit
       → afterwards (cell (view b).state.due k buyer) (cell (view b).state.owed k buyer) yen ≤ position_limit → get_or b 3 0 < trade_limit → Tradeable (view b) seller buyer k yen
   unfolding view
   tradeable t s u n = record { sells = w.sells; buys = w.buys; basket = w.basket; apart = w.apart; runs = w.runs; tradable = t; sold = s; bought = u; trades = n }
 
   pub accepted-trade : (to_seller to_buyer sold bought at_seller at_buyer : ℕ) → to_seller ≡ more (get_or b at_seller 0) yen → to_buyer ≡ less (get_or b at_buyer 0) yen
-      → at_seller ≡ positions_at + 12 * k + seller → at_buyer ≡ positions_at + 12 * k + buyer → tradable k (view b).given.terms ≡ true
+      → at_seller ≡ position_cell k seller → at_buyer ≡ position_cell k buyer → tradable k (view b).given.terms (view b).given.marks ≡ true
       → sold ≡ afterwards (cell (view b).state.owed k seller) (cell (view b).state.due k seller) yen → sold ≤ position_limit
       → bought ≡ afterwards (cell (view b).state.due k buyer) (cell (view b).state.owed k buyer) yen → bought ≤ position_limit → get_or b 3 0 < trade_limit
       → moved_to b at_seller at_buyer to_seller to_buyer ≡ stored b (traded (view b) seller buyer k yen)

@@ -1,9 +1,9 @@
 -- What a trade answers on a book that it has found sound, and after its first checks. Assumes nothing.
 use Rattle.std.specs.Prelude.{ℕ, ◌<◌, ◌≤◌, ◌≢◌, List, drop, slice_index, slice_index_or}
 use Rattle.lists.specs.Tests.{first}
-use Rattle.rule.specs.Day.{traded}
+use Rattle.rule.specs.Day.{baskets, traded}
 use Rattle.rule.specs.Calls.{Reply, accepted, answer, trade_checks}
-use Rattle.rule.specs.Layout.{view, stored}
+use Rattle.rule.specs.Layout.{participants_at, runs_at, view, stored}
 use Rattle.rule.proofs.BookLaws.{SoundBook}
 
 unfoldable pub trade_sound : List ℕ → ℕ → ℕ → ℕ → ℕ → Reply × List ℕ
@@ -13,10 +13,10 @@ trade_sound b seller buyer k yen =
 -- what the first seven checks of a trade have shown
 pub record Between (b : List ℕ) (seller buyer k yen : ℕ) : Type 0 where
   pub sound : SoundBook b
-  pub runs : slice_index_or b 2 0 < 3
-  pub sells : seller < slice_index b 0
-  pub buys : buyer < slice_index b 0
-  pub basket : k < 7
+  pub runs : slice_index_or b runs_at 0 < 3
+  pub sells : seller < slice_index b participants_at
+  pub buys : buyer < slice_index b participants_at
+  pub basket : k < baskets
   pub apart : seller ≢ buyer
   pub most : yen ≤ 1000000000000
 

@@ -1,6 +1,6 @@
 -- What moving yen between two positions of the book asks. Assumes nothing.
 use Rattle.std.specs.Prelude.{ℕ, ◌+◌, ◌≤◌, List, set, slice_index, slice_set}
-use Rattle.rule.specs.Layout.{plus, minus}
+use Rattle.rule.specs.Layout.{trades_at, plus, minus}
 use Rattle.rule.specs.Sound.{position_limit}
 use Rattle.signed.specs.Sums.{more, less}
 
@@ -12,7 +12,7 @@ pub record Movable (cell yen : ℕ) : Type 0 where
 
 -- the cells of the two positions become these, and one trade more is counted
 abbrev pub moved_to : List ℕ → ℕ → ℕ → ℕ → ℕ → List ℕ
-moved_to b seller buyer sold bought = set (slice_set (slice_set b seller sold) buyer bought) 3 (slice_index b 3 + 1)
+moved_to b seller buyer sold bought = set (slice_set (slice_set b seller sold) buyer bought) trades_at (slice_index b trades_at + 1)
 
 -- yen are added to the one and taken from the other
 unfoldable pub moved_of : List ℕ → ℕ → ℕ → ℕ → List ℕ

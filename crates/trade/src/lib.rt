@@ -14,14 +14,6 @@ use sound::limits;
 // "amount 0 or above 10^12 yen"
 const AMOUNT_LIMIT: Yen = Yen(1_000_000_000_000);
 
-// Where the participant's position in the basket stands.
-fn place(basket: u64, participant: u64) -> usize
-    requires { (basket < 7) × (participant < 12) }
-    ensures { result ≡ 1972 + 12 * basket + participant }
-{
-    layout::POSITIONS + layout::MOST_PARTICIPANTS * (basket as usize) + (participant as usize)
-}
-
 // A trade as it is given.
 #[derive(Clone, Copy)]
 struct Sale {
@@ -40,8 +32,8 @@ impl Sale {
         if !sound::tradable(book, self.basket as usize) {
             return Err(Refusal::NoUnmarkedIssue);
         }
-        let at_seller = place(self.basket, self.seller);
-        let at_buyer = place(self.basket, self.buyer);
+        let at_seller = layout::position(self.basket as usize, self.seller as usize);
+        let at_buyer = layout::position(self.basket as usize, self.buyer as usize);
         let sold = signed::more(book[at_seller], self.amount.0);
         let bought = signed::less(book[at_buyer], self.amount.0);
         // Cells and their limits are numbers: a rule of the project.
@@ -76,7 +68,7 @@ impl Sale {
         if self.buyer >= participants {
             return Err(Refusal::NotOfDay);
         }
-        if self.basket >= 7 {
+        if self.basket >= layout::BASKETS as u64 {
             return Err(Refusal::NotOfDay);
         }
         if self.seller == self.buyer {

@@ -1,6 +1,4 @@
-use Rattle.std.proofs.Common.{◌+◌, ◌*◌, arith}
-use Rattle.std.proofs.lemmas.List.{take_rest}
-use Rattle.rule.specs.Layout.{today_at}
+use Rattle.std.proofs.Common.{arith, refl}
 use Rattle.lists.proofs.CopyLaws.{lent-to, lent-from, lent-back}
 use Rattle.close.proofs.CloseLaws.{covered_none, covered-room, covered_more, covered-all, square-small}
 use Rattle.close.proofs.write_pairs.Goals as goal
@@ -13,14 +11,16 @@ loop-k-init c = covered_none _ _ c.requires
 
 pub loop-k-preserved : goal.loop-k-preserved
 loop-k-preserved c =
-    let r = covered-room _ _ c.requires _ _ c.loop-k.invariant.size c.loop-k-test.true in
-    covered_more _ _ c.requires c.loop-k-test.true c.loop-k.invariant _ (lent-back _ _ _ _ _ _ _ _ r _ (take_rest c.args.book.now (today_at + 144 * c.loop-k.k)) _ c.copy_to.ensures)
+    let marks = c.marks.ensures in
+    let r = covered-room _ _ c.requires _ _ marks.size c.loop-k.invariant.size c.loop-k-test.true in
+    covered_more _ _ c.requires marks.cells c.loop-k-test.true c.loop-k.invariant _ (lent-back _ _ _ _ _ _ _ _ r _ refl _ c.copy_to.ensures)
 
 pub copy_to-requires : goal.copy_to-requires
-copy_to-requires c = lent-to _ _ _ _ _ _ _ _ (covered-room _ _ c.requires _ _ c.loop-k.invariant.size c.loop-k-test.true)
+copy_to-requires c = lent-to _ _ _ _ _ _ _ _ (covered-room _ _ c.requires _ _ c.marks.ensures.size c.loop-k.invariant.size c.loop-k-test.true)
 
 pub invariant_of-marks : goal.invariant_of-marks
-invariant_of-marks c = record { there = lent-from _ _ _ _ _ _ _ _ (covered-room _ _ c.requires _ _ c.loop-k.invariant.size c.loop-k-test.true) _ (take_rest c.args.book.now (today_at + 144 * c.loop-k.k)) }
+invariant_of-marks c =
+    record { there = lent-from _ _ _ _ _ _ _ _ (covered-room _ _ c.requires _ _ c.marks.ensures.size c.loop-k.invariant.size c.loop-k-test.true) _ refl }
 
 pub returns : goal.returns
 returns c = covered-all _ _ c.requires (omega arith) c.loop-k.invariant

@@ -19,13 +19,13 @@ pub returns-then-self-participants-2 : goal.returns-then-self-participants-2
 unfolding trade_sound trade_between trade_checks view
 returns-then-self-participants-2 c = search (answers, rules) depth 24
 
-pub returns-then-self-ge7 : goal.returns-then-self-ge7
-unfolding trade_sound trade_between trade_checks view
-returns-then-self-ge7 c = search (answers, rules) depth 24
-
 pub returns-then-self : goal.returns-then-self
 unfolding trade_sound trade_between trade_checks view
 returns-then-self c = search (answers, rules) depth 24
+
+pub returns-then-self-2 : goal.returns-then-self-2
+unfolding trade_sound trade_between trade_checks view
+returns-then-self-2 c = search (answers, rules) depth 24
 
 pub returns-then-eq : goal.returns-then-eq
 unfolding trade_sound trade_between trade_checks view

@@ -19,7 +19,7 @@ unfolding trade_between trade_checks view
 returns-then-owed_of-gt-POSITION c =
     let a = c.args.self in
     let r = c.requires in
-    let sold = sold-is c.args.book.now r.sound a.basket a.seller _ a.amount.0 r.basket r.sells c.place-at_seller.ensures r.most _ _ c.more-sold.ensures c.owed_of.ensures in
+    let sold = sold-is c.args.book.now r.sound a.basket a.seller _ a.amount.0 r.basket r.sells c.position-at_seller.ensures r.most _ _ c.more-sold.ensures c.owed_of.ensures in
     pass 9 _ _ _ _ _ _ (granted _ (said-yes _ _ c.tradable.ensures c.if-not-tradable.false))
     (refuse 10 _ _ _ _ _ (omega arith) (over _ _ _ sold c.if-owed_of-gt-POSITION.true))
 
@@ -28,8 +28,8 @@ unfolding trade_between trade_checks view
 returns-then-due_of-gt-POSITION c =
     let a = c.args.self in
     let r = c.requires in
-    let sold = sold-is c.args.book.now r.sound a.basket a.seller _ a.amount.0 r.basket r.sells c.place-at_seller.ensures r.most _ _ c.more-sold.ensures c.owed_of.ensures in
-    let bought = bought-is c.args.book.now r.sound a.basket a.buyer _ a.amount.0 r.basket r.buys c.place-at_buyer.ensures r.most _ _ c.less-bought.ensures c.due_of.ensures in
+    let sold = sold-is c.args.book.now r.sound a.basket a.seller _ a.amount.0 r.basket r.sells c.position-at_seller.ensures r.most _ _ c.more-sold.ensures c.owed_of.ensures in
+    let bought = bought-is c.args.book.now r.sound a.basket a.buyer _ a.amount.0 r.basket r.buys c.position-at_buyer.ensures r.most _ _ c.less-bought.ensures c.due_of.ensures in
     pass 9 _ _ _ _ _ _ (granted _ (said-yes _ _ c.tradable.ensures c.if-not-tradable.false))
     (pass 10 _ _ _ _ _ _ (not-over _ _ _ sold c.if-owed_of-gt-POSITION.false)
     (refuse 10 _ _ _ _ _ (omega arith) (over _ _ _ bought c.if-due_of-gt-POSITION.true)))
@@ -39,8 +39,8 @@ unfolding trade_between trade_checks view
 returns-then-trades-ge-TRADES c =
     let a = c.args.self in
     let r = c.requires in
-    let sold = sold-is c.args.book.now r.sound a.basket a.seller _ a.amount.0 r.basket r.sells c.place-at_seller.ensures r.most _ _ c.more-sold.ensures c.owed_of.ensures in
-    let bought = bought-is c.args.book.now r.sound a.basket a.buyer _ a.amount.0 r.basket r.buys c.place-at_buyer.ensures r.most _ _ c.less-bought.ensures c.due_of.ensures in
+    let sold = sold-is c.args.book.now r.sound a.basket a.seller _ a.amount.0 r.basket r.sells c.position-at_seller.ensures r.most _ _ c.more-sold.ensures c.owed_of.ensures in
+    let bought = bought-is c.args.book.now r.sound a.basket a.buyer _ a.amount.0 r.basket r.buys c.position-at_buyer.ensures r.most _ _ c.less-bought.ensures c.due_of.ensures in
     pass 9 _ _ _ _ _ _ (granted _ (said-yes _ _ c.tradable.ensures c.if-not-tradable.false))
     (pass 10 _ _ _ _ _ _ (not-over _ _ _ sold c.if-owed_of-gt-POSITION.false)
     (pass 10 _ _ _ _ _ _ (not-over _ _ _ bought c.if-due_of-gt-POSITION.false)
@@ -51,9 +51,9 @@ unfolding trade_between trade_checks view
 returns c =
     let a = c.args.self in
     let r = c.requires in
-    let sold = sold-is c.args.book.now r.sound a.basket a.seller _ a.amount.0 r.basket r.sells c.place-at_seller.ensures r.most _ _ c.more-sold.ensures c.owed_of.ensures in
-    let bought = bought-is c.args.book.now r.sound a.basket a.buyer _ a.amount.0 r.basket r.buys c.place-at_buyer.ensures r.most _ _ c.less-bought.ensures c.due_of.ensures in
-    let made = accepted-trade c.args.book.now a.seller a.buyer a.basket a.amount.0 r _ _ _ _ _ _ c.more-sold.ensures c.less-bought.ensures c.place-at_seller.ensures c.place-at_buyer.ensures
+    let sold = sold-is c.args.book.now r.sound a.basket a.seller _ a.amount.0 r.basket r.sells c.position-at_seller.ensures r.most _ _ c.more-sold.ensures c.owed_of.ensures in
+    let bought = bought-is c.args.book.now r.sound a.basket a.buyer _ a.amount.0 r.basket r.buys c.position-at_buyer.ensures r.most _ _ c.less-bought.ensures c.due_of.ensures in
+    let made = accepted-trade c.args.book.now a.seller a.buyer a.basket a.amount.0 r _ _ _ _ _ _ c.more-sold.ensures c.less-bought.ensures c.position-at_seller.ensures c.position-at_buyer.ensures
     (said-yes _ _ c.tradable.ensures c.if-not-tradable.false) sold c.if-owed_of-gt-POSITION.false bought c.if-due_of-gt-POSITION.false c.if-trades-ge-TRADES.false in
     pass 9 _ _ _ _ _ _ (granted _ (said-yes _ _ c.tradable.ensures c.if-not-tradable.false))
     (pass 10 _ _ _ _ _ _ (not-over _ _ _ sold c.if-owed_of-gt-POSITION.false)
