@@ -13,17 +13,16 @@ use Rattle.std.specs.Simd.{first_chunks}
 use Rattle.lists.specs.Tables.{zeros}
 use Rattle.lists.proofs.PartLaws.{block-get}
 use Rattle.lists.proofs.TableLaws.{take-zeros}
-use Rattle.rule.specs.Value.{Terms, value}
 use Rattle.rule.specs.Filling.{worth}
-use Rattle.value.specs.Rate.{rate}
-use Rattle.value.specs.Rated.{Rates, terms_in, Stocked, Summable}
-use Rattle.value.proofs.SumLaws.{Summed, summable, sum_more, sum-all}
-use Rattle.value.proofs.TermLaws.{terms-length, terms-priced}
+use Rattle.value.specs.Quotes.{Quotes, terms_in}
+use Rattle.value.specs.declared.Quote.{Quote}
+use Rattle.value.proofs.SumLaws.{Summed, sum-all}
+use Rattle.value.proofs.TermLaws.{terms-length}
 use Rattle.filling.specs.Match.{Supplied}
 use Rattle.filling.specs.Rows.{Named}
 use Rattle.filling.proofs.OnceLaws.{kept-named}
 use Rattle.issue_order.specs.Ordered.{Ordered}
-use Rattle.filling_cases.specs.Cases.{Fit, Listed, Worth, Right}
+use Rattle.filling_cases.specs.Cases.{Fit, Listed, Valued, Worth, Right}
 
 -- ---- a case's terms and rows are what filling asks
 
@@ -35,48 +34,36 @@ module _ {terms notified usable used : List ℕ} {amount : ℕ} (right : Right t
   ordered_named {issues} {key} {may} {order} e o =
       subst (λ (m : ℕ). Named m order) e (subst (Named issues) (sym o.names) (kept-named issues key o.live))
 
-  pub row-there : {m : ℕ} (row : List ℕ) → m ≡ n → length row ≡ 32 → length (take m row) ≡ n
+  pub row-there : {m : ℕ} (row : List Quote) → m ≡ n → length row ≡ 32 → length (take m row) ≡ n
   row-there {m} row e l = length-take-le m row (omega (arith, right.most)) ∙ e
 
   pub row-empty : {m : ℕ} → m ≡ n → take m (zeros 32) ≡ zeros n
   row-empty {m} e = take-zeros m 32 (omega (arith, right.most)) ∙ ap zeros e
 
-  pub case-rated : {m : ℕ} {cells rates : List ℕ} → cells ≡ terms → m ≡ n → Rates (terms_in m cells) rates → Rates (terms_in n terms) rates
-  case-rated {m} {cells} {rates} e l r = rw (e, l) at r
+  pub case-quoted : {m : ℕ} {cells : List ℕ} {quotes : List Quote} → cells ≡ terms → m ≡ n → Quotes (terms_in m cells) quotes → Quotes (terms_in n terms) quotes
+  case-quoted {m} {cells} {quotes} e l r = rw (e, l) at r
 
-  pub stocked : {row rates : List ℕ} → row ≡ usable → Rates (terms_in n terms) rates → Stocked row rates
-  stocked e r = rw e (record { priced = terms-priced n terms r; issues_most = right.most; usable_most = right.usable_most })
+  pub valued : {row : List ℕ} {quotes : List Quote} → row ≡ usable → length quotes ≡ n → Valued row quotes
+  valued e l = rw e (record { most = right.most; there = l; usable_most = right.usable_most })
 
-  pub supplied : {cells lots row listed order rates : List ℕ} {all : ℕ} → cells ≡ terms → lots ≡ notified → row ≡ usable → listed ≡ order
-      → length rates ≡ n → Rates (terms_in n terms) rates → Named n order → Worth usable rates all → Supplied cells rates lots row listed all
+  pub supplied : {cells lots row listed order : List ℕ} {quotes : List Quote} {all : ℕ} → cells ≡ terms → lots ≡ notified → row ≡ usable → listed ≡ order
+      → length quotes ≡ n → Quotes (terms_in n terms) quotes → Named n order → Worth usable quotes all → Supplied cells quotes lots row listed all
   supplied e f g h there r o w = rw (e, f, g, h) (record {
     issues_least = right.least;
     issues_most = right.most;
     cells = right.termed.cells;
-    rates_there = omega (arith, there);
+    quotes_there = omega (arith, there);
     notified_there = omega (arith, right.notified_there);
-    rated = r;
+    quoted = r;
     usable_most = right.usable_most;
     named = o;
     all_is = w.summed (terms_in n terms) (terms-length n terms) r;
   })
 
-pub worth-of : {row usable rates : List ℕ} {all : ℕ} → row ≡ usable → Worth row rates all → Worth usable rates all
+pub worth-of : {row usable : List ℕ} {quotes : List Quote} {all : ℕ} → row ≡ usable → Worth row quotes all → Worth usable quotes all
 worth-of e w = rw e at w
 
--- ---- what usable lots are worth, issue by issue
-
-module _ {usable rates : List ℕ} (p : Stocked usable rates) {i w lots : ℕ} (h : i < length usable) (v : w ≡ get_or rates i 0) (q : lots ≡ get_or usable i 0) where
-  pub value-asks : {sum : ℕ} → Summed (length usable) usable rates sum i → Summable w lots sum
-  value-asks s = rw (v, q) (summable p.priced h p.issues_most (p.usable_most i h) s)
-
-  pub summed-more : {sum next : ℕ} → ((t : Terms) → w ≡ rate t → next ≡ sum + value t lots)
-      → Summed (length usable) usable rates sum i → Summed (length usable) usable rates next (i + 1)
-  summed-more {sum} {next} e s =
-      sum_more p.priced h h (summable p.priced h p.issues_most (p.usable_most i h) s)
-      (λ t r. e t (v ∙ r) ∙ ap (λ (n : ℕ). sum + value t n) q) s
-
-pub worth_all : {usable rates : List ℕ} {sum i : ℕ} → Summed (length usable) usable rates sum i → length usable ≤ i → Worth usable rates sum
+pub worth_all : {usable : List ℕ} {quotes : List Quote} {sum i : ℕ} → Summed (length usable) usable quotes sum i → length usable ≤ i → Worth usable quotes sum
 worth_all {usable} s h = record { summed = λ ts e r. sum-all s h ts e r ∙ ap (worth ts) (take_all (length usable) usable (le_refl (length usable))) }
 
 -- ---- terms in pieces of six cells
@@ -102,7 +89,6 @@ module _ (xs : List ℕ) {cs : List (List ℕ)} (e : cs ≡ first_chunks 6 (leng
         most = omega (arith, size);
         termed = record {
           cells = omega arith;
-          priced = λ i h. rw (cell_at i 1 h (omega arith)) at (fit i h).priced;
-          quoted = λ i h. rw (cell_at i 1 h (omega arith), cell_at i 2 h (omega arith), cell_at i 3 h (omega arith)) at (fit i h).quoted;
+          in_range = λ i h. rw (cell_at i 1 h (omega arith), cell_at i 2 h (omega arith), cell_at i 3 h (omega arith)) at (fit i h).in_range;
         };
       }

@@ -12,9 +12,8 @@
 ghost use Rattle.std.specs.Prelude.{◌≡◌, ◌≤◌, true, length, IfSome};
 ghost use Rattle.std.specs.List.{All};
 ghost use Rattle.lists.specs.Tables.{zeros};
-ghost use Rattle.value.specs.Rated.{Stocked};
 ghost use Rattle.filling.specs.Rows.{Named};
-ghost use Rattle.filling_cases.specs.Cases.{Right, Fit, Listed, Worth};
+ghost use Rattle.filling_cases.specs.Cases.{Right, Fit, Listed, Valued, Worth};
 
 use filling::{Filling, Supply};
 use issue_order::Order;
@@ -22,7 +21,7 @@ use quantities::{Lots, Yen};
 use std::alloc::Global;
 use std::io;
 use std::io::Read;
-use value::Rate;
+use value::Quote;
 
 // the bytes of standard input that there is room for, and one more
 const ROOM: u64 = 65_536;
@@ -63,18 +62,18 @@ impl Case<'_> {
         order
     }
 
-    // Rates and lots stand in memory of a day's most issues, as what calls the library lends them.
+    // Quotes and lots stand in memory of a day's most issues, as what calls the library lends them.
     fn fill(&self, lots: &mut [u64]) -> Filling
         requires { lots.old ≡ zeros (length self.now.usable.items) }
     {
-        let mut places = [0u64; 32];
-        let rates = &mut places[..self.usable.len()];
-        value::rates_of(self.terms.as_slice(), &mut *rates);
-        let all = worth(self.usable.as_slice(), &*rates);
+        let mut places = [Quote::LEAST; 32];
+        let quotes = &mut places[..self.usable.len()];
+        Quote::fill(self.terms.as_slice(), &mut *quotes);
+        let all = worth(self.usable.as_slice(), &*quotes);
         let order = self.order();
         let supply = Supply {
             terms: self.terms.as_slice(),
-            rates,
+            quotes,
             notified: self.notified.as_slice(),
             usable: self.usable.as_slice(),
             order: order.as_slice(),
@@ -84,15 +83,14 @@ impl Case<'_> {
     }
 }
 
-// What all usable lots are worth.
-fn worth(usable: &[u64], rates: &[u64]) -> Yen
-    requires stocked { Stocked usable.now rates.now }
-    requires rated { length rates.now ≡ length usable.now }
-    ensures { Worth usable.now rates.now result.0 }
+// What all usable lots are worth. By number: what a proof knows of a zip is of two rows of numbers.
+fn worth(usable: &[u64], quotes: &[Quote]) -> Yen
+    requires { Valued usable.now quotes.now }
+    ensures { Worth usable.now quotes.now result.0 }
 {
     let mut all = Yen(0);
-    for (lots, rate) in usable.iter().zip(rates) {
-        all = Rate(*rate).add_value(all, Lots(*lots));
+    for (i, lots) in usable.iter().enumerate() {
+        all = quotes[i].add_value(all, Lots(*lots));
     }
     all
 }

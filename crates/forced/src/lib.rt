@@ -5,7 +5,7 @@ ghost use Rattle.std.specs.Prelude.{◌≡◌, ◌*◌, ◌≤◌, List, ◌∷�
 ghost use Rattle.lists.specs.Tests.{pick};
 ghost use Rattle.rule.specs.Day.{terms_of};
 ghost use Rattle.rule.specs.Filling.{eligible, forced_issue};
-ghost use Rattle.value.specs.Rated.{terms_in};
+ghost use Rattle.value.specs.Quotes.{terms_in};
 ghost use Rattle.baskets.specs.Kinds.{KindsOf};
 ghost use Rattle.forced.specs.Choice.{noted, takes, fifth_among, least_of, BestOf, FifthOf};
 

@@ -1,5 +1,5 @@
--- The terms of the issues, read from six cells to an issue, and their rates. Assumes nothing.
-use mathlib.Core.Path.{◌≡◌, refl, sym, ap, ◌∙◌}
+-- The terms of the issues, read from six cells to an issue, and their quotes. Assumes nothing.
+use mathlib.Core.Path.{◌≡◌, refl, sym, ap, subst, ◌∙◌}
 use Prim.Native.Nat.{ℕ, zero, suc, ◌+◌, ◌*◌, ◌/◌, ◌≤◌, ◌<◌}
 use native.Mathlib.Nat.{not-suc-le-zero, le_of_suc-le-suc}
 use native.Mathlib.Omega.{arith}
@@ -18,17 +18,16 @@ use Rattle.lists.proofs.PartLaws.{block-get, row_at}
 use Rattle.rule.specs.Value.{Terms, no_terms}
 use Rattle.rule.specs.Day.{terms_of}
 use Rattle.rule.specs.Sound.{terms_fit, all_terms_fit}
-use Rattle.value.specs.Rate.{rate, Quoted}
-use Rattle.value.proofs.RateLaws.{rate_most}
-use Rattle.value.specs.Rated.{Rated, Rates, Priced, Termed, terms_in}
+use Rattle.value.specs.Range.{InRange}
+use Rattle.value.specs.Quote.{QuoteOf}
+use Rattle.value.specs.Quotes.{QuotedAt, Quotes, Termed, terms_in}
+use Rattle.value.specs.declared.Quote.{Quote}
+use Rattle.value.proofs.QuoteLaws.{some-price}
 
 module _ (issues : ℕ) (terms : List ℕ) where
   pub terms-length : length (terms_in issues terms) ≡ issues
   unfolding terms_in
   terms-length = length-map (grid terms 0 6 issues 6) terms_of ∙ length-table issues (λ p. block terms (0 + 6 * p) 6)
-
-  pub terms-priced : {rates : List ℕ} → Rates (terms_in issues terms) rates → Priced issues rates
-  terms-priced r = record { terms = terms_in issues terms; sized = terms-length; rated = r }
 
   module _ (i : ℕ) (h : i < issues) where
     -- the six cells of issue i
@@ -85,50 +84,55 @@ pub terms-cut : (issues : ℕ) (terms : List ℕ) {cs : List (List ℕ)} → cs 
 unfolding terms_in
 terms-cut issues terms e h = ap (λ (rows : List (List ℕ)). map terms_of (take issues rows)) e ∙ ap (map terms_of) (first-rows issues (length terms / 6) terms (omega arith))
 
--- ---- rates, written issue by issue
+-- ---- quotes, written issue by issue
 
--- the first i issues have their rates
-pub record RatesTo (issues : ℕ) (terms rates : List ℕ) (i : ℕ) : Type 0 where
+-- for callers: a quote that was read in its place
+pub quote-at : {t : Terms} {quotes : List Quote} {i : ℕ} → QuotedAt t quotes i → {q : Quote} → q ≡ get_or quotes i q → QuoteOf t q
+quote-at {t} a {q} e = subst (λ (x : Quote). QuoteOf t x) (sym e) (a.quoted q)
+
+-- and what it says of the terms, whoever reads it
+pub priced-at : {t : Terms} {quotes : List Quote} {i : ℕ} → QuotedAt t quotes i → 0 < t.price
+priced-at a = some-price (a.quoted (record { rate = 3_650_000; rated = record { least = omega arith; most = omega arith } }))
+
+-- the first i issues have their quotes
+pub record QuotesTo (issues : ℕ) (terms : List ℕ) (quotes : List Quote) (i : ℕ) : Type 0 where
   pub at : i ≤ issues
-  pub places : length rates ≡ issues
-  pub each : (k : ℕ) → k < i → Rated (get_or (terms_in issues terms) k no_terms) (get_or rates k 0)
+  pub places : length quotes ≡ issues
+  pub each : (k : ℕ) → k < i → QuotedAt (get_or (terms_in issues terms) k no_terms) quotes k
 
 module _ {issues : ℕ} {terms : List ℕ} (p : Termed issues terms) where
-  pub rates-none : {rates : List ℕ} → length rates ≡ issues → RatesTo issues terms rates 0
-  rates-none places = record { at = omega arith; places = places; each = λ k h. absurd (not-suc-le-zero h) }
+  pub quotes-none : {quotes : List Quote} → length quotes ≡ issues → QuotesTo issues terms quotes 0
+  quotes-none places = record { at = omega arith; places = places; each = λ k h. absurd (not-suc-le-zero h) }
 
   module _ {i : ℕ} (h : i < issues) {issue : List ℕ} (cut : issue ≡ block terms (6 * i) 6) where
     cell-is : (j : ℕ) → j < 6 → get_or issue j 0 ≡ get_or terms (6 * i + j) 0
     cell-is j l = rw cut (block-get terms (6 * i) 6 j l)
 
-    pub quoted-cut : Quoted (get_or issue 1 0) (get_or issue 2 0) (get_or issue 3 0)
-    quoted-cut = rw (cell-is 1 (omega arith), cell-is 2 (omega arith), cell-is 3 (omega arith)) (p.quoted i h)
+    pub in-range : InRange (get_or issue 1 0) (get_or issue 2 0) (get_or issue 3 0)
+    in-range = rw (cell-is 1 (omega arith), cell-is 2 (omega arith), cell-is 3 (omega arith)) (p.in_range i h)
 
-    module _ {w : ℕ} (e : (t : Terms) → t.price ≡ get_or issue 1 0 → t.coupon ≡ get_or issue 2 0 → t.days ≡ get_or issue 3 0 → w ≡ rate t) where
-      its-rate : Rated (get_or (terms_in issues terms) i no_terms) w
-      its-rate =
-          let t : Terms = get_or (terms_in issues terms) i no_terms in
-          let price = price-at issues terms i h in
-          let coupon = coupon-at issues terms i h in
-          let days = days-at issues terms i h in
-          let q : w ≡ rate t = e t (price ∙ sym (cell-is 1 (omega arith))) (coupon ∙ sym (cell-is 2 (omega arith))) (days ∙ sym (cell-is 3 (omega arith))) in
-          record { priced = rw price (p.priced i h); rated = q; most = omega (arith, q, rate_most t (rw (price, coupon, days) (p.quoted i h))) }
+    module _ {q : Quote} (e : (t : Terms) → t.price ≡ get_or issue 1 0 → t.coupon ≡ get_or issue 2 0 → t.days ≡ get_or issue 3 0 → QuoteOf t q) where
+      its-quote : QuoteOf (get_or (terms_in issues terms) i no_terms) q
+      its-quote = e (get_or (terms_in issues terms) i no_terms)
+          (price-at issues terms i h ∙ sym (cell-is 1 (omega arith)))
+          (coupon-at issues terms i h ∙ sym (cell-is 2 (omega arith)))
+          (days-at issues terms i h ∙ sym (cell-is 3 (omega arith)))
 
-      pub rates-more : {rates' : List ℕ} → RatesTo issues terms rates' i → RatesTo issues terms (set rates' i w) (i + 1)
-      rates-more {rates'} r = record {
+      pub quotes-more : {quotes' : List Quote} → QuotesTo issues terms quotes' i → QuotesTo issues terms (set quotes' i q) (i + 1)
+      quotes-more {quotes'} r = record {
         at = omega arith;
-        places = length-set rates' i w ∙ r.places;
-        each = below_more (λ k. Rated (get_or (terms_in issues terms) k no_terms) (get_or (set rates' i w) k 0)) i
-            (λ k l. rw (get_or-set_other rates' i k w 0 (omega arith)) (r.each k l))
-            (rw (get_or-set_same rates' i w 0 (omega (arith, r.places))) its-rate);
+        places = length-set quotes' i q ∙ r.places;
+        each = below_more (λ k. QuotedAt (get_or (terms_in issues terms) k no_terms) (set quotes' i q) k) i
+            (λ k l. record { quoted = λ past. rw (get_or-set_other quotes' i k q past (omega arith)) ((r.each k l).quoted past) })
+            (record { quoted = λ past. rw (get_or-set_same quotes' i q past (omega (arith, r.places))) its-quote });
       }
 
-pub rates-all : {issues : ℕ} {terms rates : List ℕ} {i : ℕ} → RatesTo issues terms rates i → issues ≤ i → Rates (terms_in issues terms) rates
-rates-all {issues} {terms} r h = record { each = λ k l. r.each k (omega (arith, terms-length issues terms)) }
+pub quotes-all : {issues : ℕ} {terms : List ℕ} {quotes : List Quote} {i : ℕ} → QuotesTo issues terms quotes i → issues ≤ i → Quotes (terms_in issues terms) quotes
+quotes-all {issues} {terms} r h = record { each = λ k l. r.each k (omega (arith, terms-length issues terms)) }
 
 -- ---- for callers: what a sound day says of its terms
 
-fit-terms : (t : Terms) → terms_fit t ≡ true → (1000 ≤ t.price) × Quoted t.price t.coupon t.days
+fit-terms : (t : Terms) → terms_fit t ≡ true → InRange t.price t.coupon t.days
 unfolding terms_fit
 fit-terms t h =
     let k : Bool = leb t.kind 6 in
@@ -141,23 +145,19 @@ fit-terms t h =
     let a = and_left (k && low && high && coupon && days && r) i h in
     let b = and_left (k && low && high && coupon && days) r a in
     let c = and_left (k && low && high && coupon) days b in
-    let d = and_left (k && low && high) coupon c in (
-      leb-true _ _ (and_right k low (and_left (k && low) high d)),
-      record {
-        price_most = leb-true _ _ (and_right (k && low) high d);
-        coupon_most = leb-true _ _ (and_right (k && low && high) coupon c);
-        days_most = leb-true _ _ (and_right (k && low && high && coupon) days b);
-      },
-    )
+    let d = and_left (k && low && high) coupon c in
+    record {
+      price_least = leb-true _ _ (and_right k low (and_left (k && low) high d));
+      price_most = leb-true _ _ (and_right (k && low) high d);
+      coupon_most = leb-true _ _ (and_right (k && low && high) coupon c);
+      days_most = leb-true _ _ (and_right (k && low && high && coupon) days b);
+    }
 
 pub sound-termed : (issues : ℕ) (terms : List ℕ) → 6 * issues ≤ length terms → all_terms_fit issues (terms_in issues terms) ≡ true → Termed issues terms
 unfolding all_terms_fit
 sound-termed issues terms cells fit = record {
   cells = cells;
-  priced = λ i h. rw (price-at issues terms i h) at (fits i h).0;
-  quoted = λ i h. rw (price-at issues terms i h, coupon-at issues terms i h, days-at issues terms i h) at (fits i h).1;
+  in_range = λ i h.
+      rw (price-at issues terms i h, coupon-at issues terms i h, days-at issues terms i h)
+      at (fit-terms (get_or (terms_in issues terms) i no_terms) (all-at (λ i. terms_fit (get_or (terms_in issues terms) i no_terms)) issues fit i h));
 }
-  where
-    fits : (i : ℕ) → i < issues → (1000 ≤ (get_or (terms_in issues terms) i no_terms).price)
-        × Quoted (get_or (terms_in issues terms) i no_terms).price (get_or (terms_in issues terms) i no_terms).coupon (get_or (terms_in issues terms) i no_terms).days
-    fits i h = fit-terms (get_or (terms_in issues terms) i no_terms) (all-at (λ i. terms_fit (get_or (terms_in issues terms) i no_terms)) issues fit i h)
