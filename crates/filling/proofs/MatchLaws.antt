@@ -16,7 +16,9 @@ use Rattle.rule.specs.Allocable.{unmarked, allocable}
 use Rattle.rule.specs.Filling.{worth, Taken, nothing, others, fill, covered, forced_issue, plain, cover, force, carry, filled}
 use Rattle.rule.proofs.FillingLaws.{apart}
 use Rattle.rule.proofs.FilledLaws.{covered-all, covered-most}
-use Rattle.value.specs.Rated.{Rated, terms_in}
+use Rattle.value.specs.Quote.{QuoteOf}
+use Rattle.value.specs.Quotes.{terms_in}
+use Rattle.value.specs.declared.Quote.{Quote}
 use Rattle.value.proofs.TermLaws.{terms-length}
 use Rattle.turns.specs.Turns.{besides, Part}
 use Rattle.turns.proofs.TurnLaws.{part-of}
@@ -51,7 +53,7 @@ carry-filled preferential ts usable order amount w e l c f x =
 
 -- ---- all usable lots go
 
-module _ {terms rates notified usable order : List ℕ} {all : ℕ} (d : Supplied terms rates notified usable order all) where
+module _ {terms : List ℕ} {quotes : List Quote} {notified usable order : List ℕ} {all : ℕ} (d : Supplied terms quotes notified usable order all) where
   abbrev ts : List Terms
   ts = terms_in (length usable) terms
 
@@ -68,17 +70,21 @@ module _ {terms rates notified usable order : List ℕ} {all : ℕ} (d : Supplie
     its-part : others ts taken i + value (get_or ts i no_terms) (get_or usable i 0) ≡ all
     its-part = apart ts (priced d) taken i in-terms (sym (terms-length (length usable) terms)) ∙ sym d.all_is
 
-    pub forced-part : all ≤ 10_000_000_000_000 → Part (get_or rates i 0) (get_or usable i 0) all
-    forced-part most = part-of (d.rated.each i in-terms) (omega (arith, its-part)) most
+    module _ (past : Quote) where
+      its-quote : QuoteOf (get_or ts i no_terms) (get_or quotes i past)
+      its-quote = (d.quoted.each i in-terms).quoted past
 
-    pub force-filled : {amount further : ℕ} {lots : List ℕ} {r : Filling}
-        → ((t : Terms) → Rated t (get_or rates i 0) → further ≡ fewest t (amount - besides t (get_or usable i 0) all) - get_or usable i 0)
-        → lots ≡ usable → r.covered.0 ≡ amount → r.forced ≡ i → r.forced_lots.0 ≡ further
-        → FilledAs (force ts usable (forced_issue basket ts row) amount) r lots
-    unfolding force
-    force-filled g l c f x =
-        let b : besides (get_or ts i no_terms) (get_or usable i 0) all ≡ others ts taken i = omega (arith, its-part) in
-        rw (← e) (record { covered = c; lots_are = l; forced = f; forced_lots = x ∙ (rw b at (g (get_or ts i no_terms) (d.rated.each i in-terms))) })
+      pub forced-part : all ≤ 10_000_000_000_000 → Part (get_or quotes i past) (get_or usable i 0) all
+      forced-part most = part-of its-quote (omega (arith, its-part)) most
+
+      pub force-filled : {amount further : ℕ} {lots : List ℕ} {r : Filling}
+          → ((t : Terms) → QuoteOf t (get_or quotes i past) → further ≡ fewest t (amount - besides t (get_or usable i 0) all) - get_or usable i 0)
+          → lots ≡ usable → r.covered.0 ≡ amount → r.forced ≡ i → r.forced_lots.0 ≡ further
+          → FilledAs (force ts usable (forced_issue basket ts row) amount) r lots
+      unfolding force
+      force-filled g l c f x =
+          let b : besides (get_or ts i no_terms) (get_or usable i 0) all ≡ others ts taken i = omega (arith, its-part) in
+          rw (← e) (record { covered = c; lots_are = l; forced = f; forced_lots = x ∙ (rw b at (g (get_or ts i no_terms) its-quote)) })
 
 -- ---- which of the two
 

@@ -15,12 +15,13 @@ use Rattle.quantities.specs.declared.Yen.{Yen}
 use Rattle.rule.specs.Value.{Terms, no_terms, value}
 use Rattle.rule.specs.Filling.{worth, Taken, nothing, lots_of, others, become, walk, fill_preferential, first_pass, second_pass, fill_drawn, fill}
 use Rattle.rule.proofs.FillingLaws.{Priced, apart, worth-become}
-use Rattle.value.specs.Rated.{Rated, terms_in}
-use Rattle.value.proofs.TermLaws.{terms-length}
+use Rattle.value.specs.Quotes.{QuotedAt, terms_in}
+use Rattle.value.specs.declared.Quote.{Quote}
+use Rattle.value.proofs.TermLaws.{terms-length, priced-at}
 use Rattle.turns.specs.Passes.{next_of, Fresh}
 use Rattle.turns.specs.declared.Pass.{Pass}
 use Rattle.turns.specs.declared.Pass.TheVariants.{Units, Remainders, Rest}
-use Rattle.turns.proofs.TurnLaws.{some-price, part-of}
+use Rattle.turns.proofs.TurnLaws.{part-of}
 use Rattle.filling.specs.Rows.{passes_of, Ready, RowTurned, Stepped, Asked}
 use Rattle.filling.specs.Match.{Supplied}
 use Rattle.filling.proofs.PassLaws.{step, begun, over, after, Has, Stands, nothing-worth, stands_at, fresh-at, left}
@@ -102,7 +103,7 @@ module _ (preferential : Bool) (terms usable order : List ℕ) (amount : ℕ) wh
 
 -- ---- the walks of a match
 
-module _ {terms rates notified usable order : List ℕ} {all : ℕ} (d : Supplied terms rates notified usable order all) where
+module _ {terms : List ℕ} {quotes : List Quote} {notified usable order : List ℕ} {all : ℕ} (d : Supplied terms quotes notified usable order all) where
   abbrev ts : List Terms
   ts = terms_in (length usable) terms
 
@@ -110,7 +111,7 @@ module _ {terms rates notified usable order : List ℕ} {all : ℕ} (d : Supplie
   sized = terms-length (length usable) terms
 
   pub priced : Priced ts
-  priced i h = some-price (d.rated.each i h)
+  priced i h = priced-at (d.quoted.each i h)
 
   named : Every (λ i. i < length ts) order
   named = every-index (λ i. i < length ts) 0 order (λ k b. omega (arith, d.named.inside k b, sized))
@@ -132,13 +133,13 @@ module _ {terms rates notified usable order : List ℕ} {all : ℕ} (d : Supplie
     its-part : others ts s i + value (get_or ts i no_terms) (lots_of s i) ≡ worth ts s.lots
     its-part = apart ts priced s i in-terms k.sized
 
-    turn-ready : reached < amount → amount ≤ 10_000_000_000_000 → Fresh pass (lots_of s i) (worth ts s.lots) amount → Ready pass rates lots usable i reached amount
+    turn-ready : reached < amount → amount ≤ 10_000_000_000_000 → Fresh pass (lots_of s i) (worth ts s.lots) amount → Ready pass quotes lots usable i reached amount
     turn-ready below most fresh =
         let less : worth ts s.lots < amount = omega (arith, h.sum) in
         rw (h.cells, h.sum) (record {
           row = k.sized ∙ sized;
           inside = inside;
-          part = part-of (d.rated.each i in-terms) {had = lots_of s i} (omega (arith, its-part)) (omega arith);
+          part = λ past. part-of ((d.quoted.each i in-terms).quoted past) {had = lots_of s i} (omega (arith, its-part)) (omega arith);
           turnable = record {
             short = record { below = less; amount_most = most };
             bounded = k.bounded i;
@@ -193,15 +194,15 @@ module _ {terms rates notified usable order : List ℕ} {all : ℕ} (d : Supplie
         let l : j < k = omega (arith, length-take-le k order (omega arith)) in
         rw (get_or-take k order j 0 l) (λ e. absurd (omega (arith, d.named.once k j at (omega arith) e))))
 
-    pub ready : amount ≤ 10_000_000_000_000 → Ready pass rates lots usable (get_or order k 0) reached amount
+    pub ready : amount ≤ 10_000_000_000_000 → Ready pass quotes lots usable (get_or order k 0) reached amount
     ready most = turn-ready stands a.holds.held (d.named.inside k at) a.holds.below most
         (fresh-at ts priced usable order amount (sym sized) named preferential pass k (get_or order k 0) not-met)
 
-    module _ {lots' : List ℕ} {r : ℕ} (t : (u : Terms) → Rated u (get_or rates (get_or order k 0) 0) → RowTurned pass u lots usable (get_or order k 0) reached amount lots' r) where
+    module _ {lots' : List ℕ} {r : ℕ} (t : (u : Terms) → QuotedAt u quotes (get_or order k 0) → RowTurned pass u lots usable (get_or order k 0) reached amount lots' r) where
       one_more : Held ts (after preferential ts usable order amount pass (k + 1)) lots' r
       one_more =
           rw (foldl-take (step ts usable order amount pass) order k 0 (begun preferential ts usable order amount pass) at)
-          (onward stands a.holds.held (d.named.inside k at) (t (get_or ts (get_or order k 0) no_terms) (d.rated.each (get_or order k 0) (omega (arith, d.named.inside k at, sized)))))
+          (onward stands a.holds.held (d.named.inside k at) (t (get_or ts (get_or order k 0) no_terms) (d.quoted.each (get_or order k 0) (omega (arith, d.named.inside k at, sized)))))
 
       pub on : r < amount → InPass preferential terms usable order amount pass (k + 1) lots' r
       on l = record { has = a.has; holds = record { below = l; held = one_more } }
@@ -210,7 +211,7 @@ module _ {terms rates notified usable order : List ℕ} {all : ℕ} (d : Supplie
       out l = one_more.cells ∙ ap (λ (s : Taken). s.lots) (sym (left ts priced usable order amount (sym sized) named preferential pass a.has (k + 1) (omega (arith, one_more.sum))))
 
     -- the issue takes nothing
-    pub passed : (turn : Option Yen) {lots' : List ℕ} → turn ≡ None → Stepped pass (get_or rates (get_or order k 0) 0) lots usable (get_or order k 0) reached amount lots' turn
+    pub passed : (turn : Option Yen) {lots' : List ℕ} → turn ≡ None → Stepped pass quotes lots usable (get_or order k 0) reached amount lots' turn
         → InPass preferential terms usable order amount pass (k + 1) lots' reached
     passed turn {lots'} none t =
-        on (subst (λ (o : Option Yen). Stepped pass (get_or rates (get_or order k 0) 0) lots usable (get_or order k 0) reached amount lots' o) none t) a.holds.below
+        on (subst (λ (o : Option Yen). Stepped pass quotes lots usable (get_or order k 0) reached amount lots' o) none t) a.holds.below

@@ -2,7 +2,8 @@
 use Rattle.std.specs.Prelude.{◌≡◌, Bool, List, ℕ, ◌*◌, ◌≤◌, ◌<◌, length, get_or}
 use Rattle.rule.specs.Value.{Terms}
 use Rattle.rule.specs.Filling.{worth, Filled, filled}
-use Rattle.value.specs.Rated.{Rates, terms_in}
+use Rattle.value.specs.Quotes.{Quotes, terms_in}
+use Rattle.value.specs.declared.Quote.{Quote}
 use Rattle.filling.specs.Rows.{Named}
 use Rattle.filling.specs.declared.Filling.{Filling}
 
@@ -15,15 +16,15 @@ pub record Idle (runs all amount : ℕ) : Type 0 where
   pub same : (preferential : Bool) (ts : List Terms) (usable order order' : List ℕ) (forced : ℕ) → all ≡ worth ts usable
       → filled runs preferential ts usable order forced amount ≡ filled runs preferential ts usable order' forced amount
 
--- usable lots of each of the day's issues, and rows that have its terms, their rate and its notified lots; an order, and what all usable
+-- usable lots of each of the day's issues, and rows that have its terms, its quote and its notified lots; an order, and what all usable
 -- lots are worth
-pub record Supplied (terms rates notified usable order : List ℕ) (all : ℕ) : Type 0 where
+pub record Supplied (terms : List ℕ) (quotes : List Quote) (notified usable order : List ℕ) (all : ℕ) : Type 0 where
   pub issues_least : 1 ≤ length usable
   pub issues_most : length usable ≤ 32
   pub cells : 6 * length usable ≤ length terms
-  pub rates_there : length usable ≤ length rates
+  pub quotes_there : length usable ≤ length quotes
   pub notified_there : length usable ≤ length notified
-  pub rated : Rates (terms_in (length usable) terms) rates
+  pub quoted : Quotes (terms_in (length usable) terms) quotes
   pub usable_most : (i : ℕ) → i < length usable → get_or usable i 0 ≤ 200_000_000
   pub named : Named (length usable) order
   pub all_is : all ≡ worth (terms_in (length usable) terms) usable

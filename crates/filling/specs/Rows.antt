@@ -3,7 +3,8 @@ use Rattle.std.specs.Prelude.{◌≡◌, Bool, true, false, List, [], ◌∷◌,
 use Rattle.lists.specs.Tables.{zeros}
 use Rattle.rule.specs.Value.{Terms, value}
 use Rattle.quantities.specs.declared.Yen.{Yen}
-use Rattle.value.specs.Rated.{Rated}
+use Rattle.value.specs.Quotes.{QuotedAt}
+use Rattle.value.specs.declared.Quote.{Quote}
 use Rattle.turns.specs.Turns.{besides, Part}
 use Rattle.turns.specs.Passes.{next_of, Turnable}
 use Rattle.turns.specs.declared.Pass.{Pass}
@@ -15,10 +16,10 @@ passes_of true = Rest ∷ []
 passes_of false = Units ∷ Remainders ∷ Rest ∷ []
 
 -- the turn of issue i in a row of lots
-pub record Ready (pass : Pass) (rates lots usable : List ℕ) (i reached amount : ℕ) : Type 0 where
+pub record Ready (pass : Pass) (quotes : List Quote) (lots usable : List ℕ) (i reached amount : ℕ) : Type 0 where
   pub row : length lots ≡ length usable
   pub inside : i < length usable
-  pub part : Part (get_or rates i 0) (get_or lots i 0) reached
+  pub part : (past : Quote) → Part (get_or quotes i past) (get_or lots i 0) reached
   pub turnable : Turnable pass (get_or lots i 0) (get_or usable i 0) reached amount
 
 pub record RowTurned (pass : Pass) (t : Terms) (lots usable : List ℕ) (i reached amount : ℕ) (after : List ℕ) (value_after : ℕ) : Type 0 where
@@ -30,10 +31,10 @@ abbrev pub worth_after : ℕ → Option Yen → ℕ
 worth_after reached None = reached
 worth_after reached (Some worth) = worth.0
 
--- the turn taken, whatever the terms of the rate
-abbrev pub Stepped : Pass → ℕ → List ℕ → List ℕ → ℕ → ℕ → ℕ → List ℕ → Option Yen → Type 0
-Stepped pass w lots usable i reached amount after r =
-    (t : Terms) → Rated t w → RowTurned pass t lots usable i reached amount after (worth_after reached r)
+-- the turn taken, whatever the terms of the quote
+abbrev pub Stepped : Pass → List Quote → List ℕ → List ℕ → ℕ → ℕ → ℕ → List ℕ → Option Yen → Type 0
+Stepped pass quotes lots usable i reached amount after r =
+    (t : Terms) → QuotedAt t quotes i → RowTurned pass t lots usable i reached amount after (worth_after reached r)
 
 -- ---- what filling asks
 

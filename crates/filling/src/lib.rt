@@ -1,15 +1,15 @@
-// How many lots of which issues a match gets. Everything is by issue number; rates stand for prices.
+// How many lots of which issues a match gets. Everything is by issue number; quotes stand for prices.
 #![tactic(auto)]
 
-ghost use Rattle.std.specs.Prelude.{◌≡◌, false, length, get_or, take};
+ghost use Rattle.std.specs.Prelude.{◌≡◌, false, length, take};
 ghost use Rattle.rule.specs.Filling.{covered as covered_of, fill as fill_of, forced_issue, force as force_of, filled};
-ghost use Rattle.value.specs.Rated.{terms_in};
+ghost use Rattle.value.specs.Quotes.{terms_in};
 ghost use Rattle.filling.specs.Rows.{passes_of, Ready, Stepped, Asked};
 ghost use Rattle.filling.specs.Match.{Coverable, Idle, Supplied, Forcible, FilledAs};
 
 use quantities::{Lots, Yen};
 use turns::{Pass, Standing};
-use value::Rate;
+use value::Quote;
 
 // "the shortage is rounded up to 10,000,000 yen, at most the amount .. the rest is the covered amount".
 #[tactic(auto, unfolding(rule::specs::Filling::covered, rule::specs::Filling::shortage))]
@@ -69,12 +69,12 @@ pub struct Filling {
 #[derive(Clone, Copy)]
 pub struct Supply<'a> {
     pub terms: &'a [u64],
-    pub rates: &'a [u64],
+    pub quotes: &'a [Quote],
     pub notified: &'a [u64],
     pub usable: &'a [u64],
     pub order: &'a [u64],
     pub all: Yen,
-    pub ghost supplied: { Supplied terms.now rates.now notified.now usable.now order.now all.0 },
+    pub ghost supplied: { Supplied terms.now quotes.now notified.now usable.now order.now all.0 },
 }
 
 impl Supply<'_> {
@@ -113,7 +113,7 @@ impl Supply<'_> {
         let notified = &self.notified[..self.usable.len()];
         let i = forced::forced_issue(self.terms, basket, notified);
         let standing = Standing {
-            rate: Rate(self.rates[i]),
+            quote: self.quotes[i],
             had: Lots(self.usable[i]),
             reached: self.all,
         };
@@ -161,11 +161,11 @@ impl Supply<'_> {
         amount: Yen,
         lots: &mut [u64],
     ) -> Option<Yen>
-        requires { Ready pass self.now.rates.now lots.old self.now.usable.now i reached.0 amount.0 }
-        ensures { Stepped pass (get_or self.now.rates.now i 0) lots.old self.now.usable.now i reached.0 amount.0 lots.new result }
+        requires { Ready pass self.now.quotes.now lots.old self.now.usable.now i reached.0 amount.0 }
+        ensures { Stepped pass self.now.quotes.now lots.old self.now.usable.now i reached.0 amount.0 lots.new result }
     {
         let standing = Standing {
-            rate: Rate(self.rates[i]),
+            quote: self.quotes[i],
             had: Lots(lots[i]),
             reached,
         };

@@ -1,13 +1,13 @@
 -- The forced issue, chosen on the way down the issues. Assumes nothing.
 use mathlib.Core.Path.{◌≡◌, refl, sym, ap, ap₂, subst, ◌∙◌}
 use mathlib.Core.Logic.{◌⊎◌, inl, inr, ⊎_elim}
-use Prim.Native.Nat.{ℕ, suc, ◌+◌, ◌-◌, ◌*◌, ◌≤◌, ◌<◌, suc-le-suc}
+use Prim.Native.Nat.{ℕ, suc, ◌+◌, ◌-◌, ◌≤◌, ◌<◌, suc-le-suc}
 use native.Mathlib.Nat.{le_refl, not-suc-le-zero}
 use native.Mathlib.Decide.{ℕ_discrete}
 use native.Mathlib.Omega.{arith}
 use mathlib.Core.Bool.{Bool, true, false, ◌&&◌}
 use mathlib.Core.List.{List, [], ◌∷◌, ◌++◌, map, append-nil, append_assoc}
-use lib.ListN.{length, take, get_or, length-append, length-map, get_or-map}
+use lib.ListN.{length, get_or, length-append, length-map, get_or-map}
 use lib.Seq.{get_or-append-add}
 use lib.Dec.{eqb, leb, ltb}
 use borrow.Author.Tests.{eq-eqb, ne_eqb, lt-ltb, le-ltb, le-leb, lt-leb}
@@ -18,12 +18,9 @@ use Rattle.lists.specs.Tables.{from, up_to}
 use Rattle.lists.specs.Folds.{keep, Every}
 use Rattle.lists.proofs.TestLaws.{pick_yes, pick_no, pick-elim, stop, go, and_no, all_of, all-stop}
 use Rattle.lists.proofs.FoldLaws.{every_map, every-from, every-at, every_get, every-keep, keep-cong, keep-none}
-use Rattle.value.specs.Rated.{terms_in}
-use Rattle.baskets.specs.Marked.{marks_in}
-use Rattle.lists.proofs.CutLaws.{cut, cut-rows}
 use Rattle.rule.specs.Allocable.{Marks, no_marks}
 use Rattle.rule.specs.Value.{Terms, no_terms}
-use Rattle.rule.specs.Day.{terms_of, marks_of, term_size}
+use Rattle.rule.specs.Day.{terms_of, marks_of}
 use Rattle.rule.specs.Filling.{eligible, or_else, most_notified, fifth_largest, forced_issue}
 use Rattle.baskets.specs.Kinds.{KindsOf}
 use Rattle.forced.specs.Choice.{noted, takes, is_eligible, ten_year, fifth_among, FirstOf, BestAt, BestOf, least_of, FifthAt, FifthOf}
@@ -159,13 +156,6 @@ module _ (k : ℕ) (ts : List Terms) (ms : List Marks) (notified : List ℕ) whe
   pub forced-fifth : {r : ℕ} → BestOf (λ i. get_or notified i 0) (eligible k ts ms) None → r ≡ fifth_among ts (eligible k ts ms) → r ≡ forced_issue k ts ms notified
   unfolding forced_issue
   forced-fifth h e = rw (none-notified notified (eligible k ts ms) h (le_refl 0)) e
-
--- the issues of the day come first among the terms
-pub given-cut : (k n : ℕ) (terms notified : List ℕ) {cs : List (List ℕ)} → cs ≡ cut term_size terms → term_size * n ≤ length terms
-    → forced_issue k (map terms_of (take n cs)) (map marks_of (take n cs)) notified ≡ forced_issue k (terms_in n terms) (marks_in n terms) notified
-unfolding terms_in marks_in
-given-cut k n terms notified e h =
-    ap (λ (rows : List (List ℕ)). forced_issue k (map terms_of rows) (map marks_of rows) notified) (ap (take n) e ∙ cut-rows term_size n terms (omega arith) h)
 
 -- ---- down the issues
 

@@ -3,11 +3,9 @@
 
 ghost use Rattle.std.specs.Prelude.{◌≡◌, ◌*◌, ◌≤◌, List, ◌∷◌, map, ℕ, length};
 ghost use Rattle.lists.specs.Tests.{pick};
-ghost use Rattle.rule.specs.Day.{term_size, terms_of, marks_of};
+ghost use Rattle.rule.specs.Day.{terms_of, marks_of};
 ghost use Rattle.rule.specs.Filling.{eligible, forced_issue};
-ghost use Rattle.value.specs.Rated.{terms_in};
 ghost use Rattle.baskets.specs.Kinds.{KindsOf};
-ghost use Rattle.baskets.specs.Marked.{marks_in};
 ghost use Rattle.forced.specs.Choice.{noted, takes, fifth_among, least_of, BestOf, FifthOf};
 
 use quantities::Lots;
@@ -109,11 +107,10 @@ fn fifth_largest(issues: &[layout::Terms], kinds: &[bool; 7]) -> usize
 }
 
 // The issue that is forced in run 3. "With none above 0": only then are the issues gone through again.
-pub fn forced_issue(terms: &[u64], basket: u64, notified: &[u64]) -> usize
-    requires { term_size * length notified.now ≤ length terms.now }
-    ensures { result ≡ forced_issue basket (terms_in (length notified.now) terms.now) (marks_in (length notified.now) terms.now) notified.now }
+pub fn forced_issue(issues: &[layout::Terms], basket: u64, notified: &[u64]) -> usize
+    requires { length notified.now ≡ length issues.now }
+    ensures { result ≡ forced_issue basket (map terms_of issues.now) (map marks_of issues.now) notified.now }
 {
-    let issues = &terms.as_chunks().0[..notified.len()];
     let kinds = baskets::kinds_of(basket);
     match most_notified(issues, &kinds, notified) {
         Some(best) => best.issue,

@@ -24,6 +24,7 @@ use Rattle.rule.specs.Day.{Given, Day}
 use Rattle.rule.specs.Run.{Allocation, used, used_table, allocable_of, usable, allocate, basket_plan, basket, allocations, lots_from, lots_to}
 use Rattle.rule.specs.Sound.{position_limit, tally_limit}
 use Rattle.rule.proofs.MatchingLaws.{out_of, in_to, out-of-owed, in-to-due}
+use Rattle.rule.proofs.ValueLaws.{least_worth}
 use Rattle.rule.proofs.FilledBounds.{lots-paid}
 use Rattle.rule.proofs.RunLaws.{Runnable, Allocated, total-run, prices, allocate-right, allocated, few-allocations}
 
@@ -118,12 +119,12 @@ module _ (y : Day) (draw : List ℕ) (h : Runnable y draw) where
       fold-kept Kept (λ k. Unit {0}) (λ done k. done ++ basket y draw (used_table y.given done) k) (λ done k u. baskets-within done k)
       (up_to 7) (every-all (λ k. Unit {0}) (λ k. tt) (up_to 7)) [] (λ d i l q. omega (arith, used-none d i))
 
-  -- ---- what a run adds to a tally: a lot is worth 5,000 yen or more, and a match has one more at most
+  -- ---- what a run adds to a tally: a lot is worth `least_worth` or more, and a match has one more at most
 
-  lots-covered : (i : ℕ) → i < y.given.issues → (a : Allocation) → Allocated y a → 5000 * all_lots a.filled i ≤ a.filled.covered + 5000
+  lots-covered : (i : ℕ) → i < y.given.issues → (a : Allocation) → Allocated y a → least_worth * all_lots a.filled i ≤ a.filled.covered + least_worth
   lots-covered i l a r = go (dec_lt 0 a.filled.covered)
     where
-      go : Dec (0 < a.filled.covered) → 5000 * all_lots a.filled i ≤ a.filled.covered + 5000
+      go : Dec (0 < a.filled.covered) → least_worth * all_lots a.filled i ≤ a.filled.covered + least_worth
       go (yes q) =
           lots-paid y.given.terms a.filled (r.issues ∙ sym h.shaped.terms) (prices y.given.issues y.given.terms y.given.marks h.day.terms h.shaped.terms)
           (r.fewest q) i (omega (arith, h.shaped.terms))
@@ -131,7 +132,7 @@ module _ (y : Day) (draw : List ℕ) (h : Runnable y draw) where
 
   module _ (who : Match → ℕ) (p : ℕ) where
     lots-sum : (i : ℕ) → i < y.given.issues → (made : List Allocation) → Every (Allocated y) made
-        → 5000 * total (λ a. pick (eqb (who a.match) p) (all_lots a.filled i) 0) made ≤ total (λ a. pick (eqb (who a.match) p) a.match.amount 0) made + 5000 * length made
+        → least_worth * total (λ a. pick (eqb (who a.match) p) (all_lots a.filled i) 0) made ≤ total (λ a. pick (eqb (who a.match) p) a.match.amount 0) made + least_worth * length made
     lots-sum i l [] r = omega arith
     lots-sum i l (a ∷ made) r =
         omega (
@@ -140,7 +141,7 @@ module _ (y : Day) (draw : List ℕ) (h : Runnable y draw) where
           lots-sum i l made r.1,
         )
       where
-        one : (b : Bool) (x z : ℕ) → 5000 * x ≤ z + 5000 → 5000 * pick b x 0 ≤ pick b z 0 + 5000
+        one : (b : Bool) (x z : ℕ) → least_worth * x ≤ z + least_worth → least_worth * pick b x 0 ≤ pick b z 0 + least_worth
         one true x z q = q
         one false x z q = omega arith
 

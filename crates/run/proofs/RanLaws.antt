@@ -25,7 +25,8 @@ use Rattle.rule.proofs.BookLaws.{SoundBook}
 use Rattle.rule.proofs.LayoutLaws.{Shaped, Holds, view-shaped, view-holds, signed-cell, given-kept, stored_is, outside-sizes, outside-position, outside-notice, outside-pair, outside-tally}
 use Rattle.rule.proofs.RunLaws.{Runnable}
 use Rattle.rule.proofs.RunSound.{ran-shaped}
-use Rattle.value.specs.Rated.{Rates, Termed, terms_in}
+use Rattle.value.specs.Quotes.{Quotes, Termed, terms_in}
+use Rattle.value.specs.declared.Quote.{Quote}
 use Rattle.value.proofs.TermLaws.{sound-termed}
 use Rattle.std.specs.Array.{AllOfLen}
 use Rattle.arrayvec.specs.ArrayVec.{ArrayVec}
@@ -265,26 +266,27 @@ module _ (b draw : List ℕ) (s : SoundBook b) (h : Runnable (view b) draw) (c d
 -- ---- the whole
 
 module _ (b draw m₀ l₀ : List ℕ) (h : Start b draw m₀ l₀) where
-  pub rates-asked : Termed (issues_in b) (block b terms_at 192)
+  pub quotes-asked : Termed (issues_in b) (block b terms_at 192)
   unfolding view
-  rates-asked =
+  quotes-asked =
       sound-termed (issues_in b) (block b terms_at 192)
       (omega (arith, length-block b terms_at 192 (omega (arith, h.book.readable.size)), h.book.sizes.most))
       (subst (λ (ts : List Terms). all_terms_fit (issues_in b) ts ≡ true) (sym (terms-are b h.book.sizes.most (omega (arith, h.book.readable.size)))) h.book.day.terms)
 
-  -- the row of the rates, as long as there are issues, was lent and is back
-  module _ (row : List ℕ) (wide : length row ≡ 32) where
+  -- the row of the quotes, as long as there are issues, was lent and is back
+  module _ (row : List Quote) (wide : length row ≡ 32) where
     lent : length (take (issues_in b) row) ≡ issues_in b
     lent = length-take-le (issues_in b) row (omega (arith, wide, h.book.sizes.most))
 
-    pub rates-lent : Termed (length (take (issues_in b) row)) (block b terms_at 192)
-    rates-lent = rw lent rates-asked
+    pub quotes-lent : Termed (length (take (issues_in b) row)) (block b terms_at 192)
+    quotes-lent = rw lent quotes-asked
 
     -- the stock has them
-    pub stocked : {rates allocable : Bor (List ℕ)} → length rates.now ≡ length (take (issues_in b) row) → Rates (terms_in (length (take (issues_in b) row)) (block b terms_at 192)) rates.now
-        → Allocable b allocable.now → Stocked b (record { rates = rates; allocable = allocable })
-    stocked {rates} e r a = record {
-      rates = record { there = omega (arith, e, lent); rated = subst (λ (n : ℕ). Rates (terms_in n (block b terms_at 192)) rates.now) lent r };
+    pub stocked : {quotes : Bor (List Quote)} {allocable : Bor (List ℕ)} → length quotes.now ≡ length (take (issues_in b) row)
+        → Quotes (terms_in (length (take (issues_in b) row)) (block b terms_at 192)) quotes.now
+        → Allocable b allocable.now → Stocked b (record { quotes = quotes; allocable = allocable })
+    stocked {quotes} e r a = record {
+      quotes = record { there = omega (arith, e, lent); quoted = subst (λ (n : ℕ). Quotes (terms_in n (block b terms_at 192)) quotes.now) lent r };
       lots = a;
     }
 

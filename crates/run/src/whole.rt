@@ -8,6 +8,7 @@ use issue_order::Order;
 use reply::Counts;
 use run_post::listing::Lists;
 use run_usable::Stock;
+use value::Quote;
 
 // "Basket by basket, A first".
 fn run_baskets(book: &mut [u64], draw: &[u64], stock: Stock, lists: &mut Lists)
@@ -55,13 +56,13 @@ pub fn run(book: &mut [u64], draw: &[u64], matches: &mut [u64], lines: &mut [u64
     ensures { Ran book.old draw.now matches.old lines.old book.new matches.new lines.new result.matches result.lines }
 {
     let issues = book[layout::ISSUES] as usize;
-    let mut cells = [0u64; 32];
-    let rates = &mut cells[..issues];
-    value::rates_of(&book[layout::TERMS..layout::RECEIPTS], &mut *rates);
     let mut allocable = [0u64; 384];
     run_usable::allocable_rows(&*book, &mut allocable[..]);
+    let mut places = [Quote::LEAST; 32];
+    let quotes = &mut places[..issues];
+    Quote::fill(&book[layout::TERMS..layout::RECEIPTS], &mut *quotes);
     let stock = Stock {
-        rates,
+        quotes,
         allocable: &allocable[..],
     };
     let mut lists = Lists {

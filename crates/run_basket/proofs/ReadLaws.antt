@@ -25,7 +25,7 @@ use Rattle.rule.specs.Run.{Allocation, used_table, allocate, basket_plan, basket
 use Rattle.rule.specs.Layout.{terms_at, receipts_at, pairs_at, positions_at, notices_at, today_at, plus, minus, view, signed, position_cell}
 use Rattle.rule.proofs.BookLaws.{SoundBook}
 use Rattle.matching.proofs.ListLaws.{block-block}
-use Rattle.value.specs.Rated.{terms_in as terms_of_block}
+use Rattle.value.specs.Quotes.{terms_in as terms_of_block}
 use Rattle.run_usable.specs.Stock.{terms_in, allocable_in}
 use Rattle.run_order.specs.Sizes.{participants_in, issues_in, Sized}
 use Rattle.run_match.specs.Filled.{positions_in, plan_in, book_terms}

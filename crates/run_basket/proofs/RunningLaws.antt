@@ -27,7 +27,7 @@ use Rattle.rule.proofs.RunLaws.{Runnable, Allocated, matched-from, few-allocatio
 use Rattle.rule.proofs.RunLots.{used-most, lots-from-most}
 use Rattle.rule.proofs.RunLists.{few_lines}
 use Rattle.matching.specs.declared.Match.{Match as Entry}
-use Rattle.value.specs.Rated.{Rates}
+use Rattle.value.specs.Quotes.{Quotes}
 use Rattle.filling.specs.Match.{FilledAs}
 use Rattle.filling.specs.declared.Filling.{Filling}
 use Rattle.filling.proofs.MatchLaws.{allocable_most}
@@ -40,7 +40,7 @@ use Rattle.run_post.specs.Booked.{YenMoved, LotsMoved}
 use Rattle.run_order.specs.Sizes.{participants_in, issues_in}
 use Rattle.run_order.specs.Orders.{Same, notified_in, Orders, OrderedAt, OrderAsked, OrderFor}
 use Rattle.run_match.specs.declared.Basket.{Basket}
-use Rattle.run_match.specs.Filled.{may_use, RatesOf, UsableAsked, UsableLots, Fillable, filled_in, lots_with, Writable, Wrote}
+use Rattle.run_match.specs.Filled.{may_use, QuotesOf, UsableAsked, UsableLots, Fillable, filled_in, lots_with, Writable, Wrote}
 use Rattle.run_order.proofs.OrderLaws.{orders-moved}
 use Rattle.run_post.specs.declared.listing.Lists.{Lists}
 use Rattle.run_basket.specs.Running.{done_at, Start, Running, Stocked, Planning}
@@ -215,17 +215,17 @@ module _ (b draw m₀ l₀ : List ℕ) (S : Start b draw m₀ l₀) (B : Basket)
     deliverer-few : d < 12
     deliverer-few = omega (arith, deliverer, S.book.sizes.few)
 
-    rates-same : RatesOf c B.stock
-    rates-same = record {
-      there = omega (arith, issues-same, T.rates.there);
-      rated = subst (λ (ts : List Terms). Rates ts B.stock.rates.now) (sym (terms-kept b S.book done c R.booked)) T.rates.rated;
+    quotes-same : QuotesOf c B.stock
+    quotes-same = record {
+      there = omega (arith, issues-same, T.quotes.there);
+      quoted = subst (λ (ts : List Terms). Quotes ts B.stock.quotes.now) (sym (terms-kept b S.book done c R.booked)) T.quotes.quoted;
     }
 
     pub usable-asks : (places : ℕ) → places ≡ issues_in c → UsableAsked c B e used' places
     usable-asks places v = record {
       sized = sized-kept b S.book done c R.booked;
       deliverer = omega (arith, deliverer, S.book.sizes.few);
-      rates = rates-same;
+      quotes = quotes-same;
       marked = omega (arith, ap length P.inside_is, length-table (issues_in b) (inside_of b k), issues-same);
       stock = T.lots.places;
       gone = R.places;
@@ -275,7 +275,7 @@ module _ (b draw m₀ l₀ : List ℕ) (S : Start b draw m₀ l₀) (B : Basket)
         sized = sized-kept b S.book done c R.booked;
         deliverer = omega (arith, deliverer, S.book.sizes.few);
         amount = amount_most;
-        rates = rates-same;
+        quotes = quotes-same;
         wide = usable-wide U;
         most = U.most;
         worth_is = U.worth_is;

@@ -19,7 +19,7 @@ use Rattle.run_usable.specs.declared.Stock.{Stock}
 use Rattle.run_post.specs.declared.listing.Lists.{Lists}
 use Rattle.run_order.specs.Sizes.{participants_in, issues_in}
 use Rattle.run_order.specs.Orders.{Orders}
-use Rattle.run_match.specs.Filled.{RatesOf}
+use Rattle.run_match.specs.Filled.{QuotesOf}
 use Rattle.run_match.specs.declared.Basket.{Basket}
 
 -- ---- the matches so far
@@ -92,7 +92,7 @@ pub record Done (b₀ m₀ l₀ : List ℕ) (done : List Allocation) (b : List �
 
 -- the stock of a run, from the book as it was
 pub record Stocked (b : List ℕ) (s : Stock) : Type 0 where
-  pub rates : RatesOf b s
+  pub quotes : QuotesOf b s
   pub lots : Allocable b s.allocable.now
 
 pub record Begun (b₀ draw m₀ l₀ : List ℕ) (k : ℕ) (b : List ℕ) (s : Stock) (orders : List (ArrayVec ℕ)) (used' : List ℕ) (t : Lists) : Type 0 where

@@ -12,9 +12,9 @@ use Rattle.lists.proofs.TableLaws.{get_or-table}
 use Rattle.lists.proofs.PartLaws.{block-get, length-block, part-is, part_length, table-agree}
 use Rattle.rule.specs.Filling.{Filled, filled, forced_issue}
 use Rattle.rule.specs.Layout.{terms_at, notices_at}
-use Rattle.value.proofs.TermLaws.{terms-length, terms-priced}
+use Rattle.value.proofs.TermLaws.{terms-length}
 use Rattle.filling.specs.Match.{FilledAs}
-use Rattle.value.specs.Rated.{terms_in}
+use Rattle.value.specs.Quotes.{terms_in}
 use Rattle.filling.specs.declared.Filling.{Filling}
 use Rattle.matching.specs.declared.Match.{Match as Entry}
 use Rattle.run_usable.specs.Stock.{usable_of, may_use as row_may_use, Usable as RowUsable, Usables}
@@ -48,19 +48,18 @@ module _ {b : List ℕ} {B : Basket} {e : Entry} {used : List ℕ} {places : ℕ
   lent : (xs : List ℕ) (i : ℕ) → i < m → get_or (take (at + m - at) (drop at xs)) i 0 ≡ get_or xs (at + i) 0
   lent xs i l = ap (λ (p : List ℕ). get_or p i 0) (part-is xs at m) ∙ block-get xs at m i l
 
-  pub usable-asks : RowUsable inside (take (at + m - at) (drop at allocable)) (take (at + m - at) (drop at used)) B.stock.rates.now places
+  pub usable-asks : RowUsable inside (take (at + m - at) (drop at allocable)) (take (at + m - at) (drop at used)) B.stock.quotes.now places
   usable-asks = rw h.row (record {
     few = h.sized.issues;
     marked = h.marked;
     stock = omega (arith, part_length allocable at m stock-fits);
     gone = omega (arith, part_length used at m gone-fits);
-    rates_there = h.rates.there;
+    quotes_there = h.quotes.there;
     allocable_most = λ i l. omega (arith, lent allocable i l, h.allocable_most i l);
     enough = λ i l e. omega (arith, lent used i l, lent allocable i l, h.enough i l e);
-    priced = terms-priced m (block b terms_at 192) h.rates.rated;
   })
 
-  module _ {usable : List ℕ} {all : ℕ} (w : Usables inside (take (at + m - at) (drop at allocable)) (take (at + m - at) (drop at used)) B.stock.rates.now places usable all) where
+  module _ {usable : List ℕ} {all : ℕ} (w : Usables inside (take (at + m - at) (drop at allocable)) (take (at + m - at) (drop at used)) B.stock.quotes.now places usable all) where
     abbrev f : ℕ → ℕ
     f i = may_use B used e.deliverer i
 
@@ -85,7 +84,7 @@ module _ {b : List ℕ} {B : Basket} {e : Entry} {used : List ℕ} {places : ℕ
     usable-are = record {
       row = row_is;
       most = most;
-      worth_is = w.worth_is (book_terms b) (terms-length m (block b terms_at 192) ∙ sym h.row) h.rates.rated;
+      worth_is = w.worth_is (book_terms b) (terms-length m (block b terms_at 192) ∙ sym h.row) h.quotes.quoted;
     }
 
 -- ---- filling

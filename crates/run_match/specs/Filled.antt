@@ -8,7 +8,7 @@ use Rattle.matching.specs.declared.Match.{Match as Entry}
 use Rattle.rule.specs.Filling.{worth, Filled, filled, forced_issue}
 use Rattle.rule.specs.Layout.{book_length, terms_at, pairs_at, positions_at, notices_at, plus, minus}
 use Rattle.rule.proofs.DrawLaws.{EachOnce}
-use Rattle.value.specs.Rated.{Rates, terms_in}
+use Rattle.value.specs.Quotes.{Quotes, terms_in}
 use Rattle.run_order.specs.Sizes.{participants_in, issues_in, Sized}
 use Rattle.filling.specs.Rows.{Named}
 use Rattle.filling.specs.declared.Filling.{Filling}
@@ -52,15 +52,15 @@ may_use B used d i = usable_of (get_or B.inside.now i false) (get_or B.stock.all
 abbrev pub usable_in : List ℕ → Basket → List ℕ → ℕ → List ℕ
 usable_in b B used d = table (issues_in b) (may_use B used d)
 
--- the stock has the rate of each issue in the book
-pub record RatesOf (b : List ℕ) (s : Stock) : Type 0 where
-  pub there : issues_in b ≤ length s.rates.now
-  pub rated : Rates (book_terms b) s.rates.now
+-- the stock has the quote of each issue in the book
+pub record QuotesOf (b : List ℕ) (s : Stock) : Type 0 where
+  pub there : issues_in b ≤ length s.quotes.now
+  pub quoted : Quotes (book_terms b) s.quotes.now
 
 pub record UsableAsked (b : List ℕ) (B : Basket) (m : Entry) (used : List ℕ) (places : ℕ) : Type 0 where
   pub sized : Sized b
   pub deliverer : m.deliverer < 12
-  pub rates : RatesOf b B.stock
+  pub quotes : QuotesOf b B.stock
   pub marked : issues_in b ≤ length B.inside.now
   pub stock : length B.stock.allocable.now ≡ 384
   pub gone : length used ≡ 384
@@ -81,7 +81,7 @@ pub record Fillable (b : List ℕ) (s : Stock) (m : Entry) (usable : List ℕ) (
   pub sized : Sized b
   pub deliverer : m.deliverer < 12
   pub amount : m.amount.0 ≤ 10_000_000_000_000
-  pub rates : RatesOf b s
+  pub quotes : QuotesOf b s
   pub wide : length usable ≡ issues_in b
   pub most : (i : ℕ) → i < issues_in b → get_or usable i 0 ≤ 200_000_000
   pub worth_is : all ≡ worth (book_terms b) usable

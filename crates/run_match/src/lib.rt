@@ -83,7 +83,7 @@ impl Basket<'_> {
             self.inside,
             &self.stock.allocable[at..end],
             &used[at..end],
-            self.stock.rates,
+            self.stock.quotes,
             usable,
         )
     }
@@ -106,7 +106,7 @@ impl Basket<'_> {
         let end = notices + issues;
         let supply = Supply {
             terms: &book[layout::TERMS..layout::RECEIPTS],
-            rates: self.stock.rates,
+            quotes: self.stock.quotes,
             notified: &book[notices..end],
             usable,
             order: order.as_slice(),

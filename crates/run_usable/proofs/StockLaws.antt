@@ -24,9 +24,10 @@ use Rattle.rule.specs.Filling.{worth}
 use Rattle.rule.specs.Layout.{terms_at, receipts_at, notices_at, most_issues, lots_size, issue_terms, runs_at, lots_row, row_cell, row_start, issues_at, most_participants}
 use Rattle.lists.specs.Rows.{Becomes}
 use Rattle.lists.proofs.RowLaws.{lent-size, lent-in, lent_out, Changed, changed-none, changed-more}
-use Rattle.value.specs.Rate.{rate}
-use Rattle.value.specs.Rated.{Summable}
-use Rattle.value.proofs.SumLaws.{Summed, sum-none, sum_kept, summable, sum_more, sum-all}
+use Rattle.value.specs.Range.{most_lots, most_sum}
+use Rattle.value.specs.Quote.{QuoteOf}
+use Rattle.value.specs.declared.Quote.{Quote}
+use Rattle.value.proofs.SumLaws.{Summed, sum-none, sum_kept, sum_most, sum_more, sum-all}
 use Rattle.run_usable.specs.Stock.{terms_in, marks_in, allocable_in, inside_of, usable_of, may_use, Usable, Usables}
 
 module _ (b : List ℕ) (n i : ℕ) (l : i < n) {issues : List (List ℕ)} (there : issues ≡ grid b terms_at term_size n term_size) where
@@ -113,14 +114,15 @@ unfolding usable_of
 usable_most inside allocable used c h = pick-elim (λ (x : ℕ). x ≤ c) inside (allocable - used) 0 (omega arith) (omega arith)
 
 -- the issues below i are written and summed
-pub record UsableTo (inside : List Bool) (allocable used rates row₀ row : List ℕ) (all i : ℕ) : Type 0 where
+pub record UsableTo (inside : List Bool) (allocable used : List ℕ) (quotes : List Quote) (row₀ row : List ℕ) (all i : ℕ) : Type 0 where
   pub written : Changed (λ j c. c ≡ may_use inside allocable used j) row₀ row i
-  pub summed : Summed (length row₀) row rates all i
+  pub summed : Summed (length row₀) row quotes all i
 
-pub usable-none : (inside : List Bool) (allocable used rates row : List ℕ) → UsableTo inside allocable used rates row row 0 0
-usable-none inside allocable used rates row = record { written = changed-none _ row; summed = sum-none }
+pub usable-none : (inside : List Bool) (allocable used : List ℕ) (quotes : List Quote) (row : List ℕ) → UsableTo inside allocable used quotes row row 0 0
+usable-none inside allocable used quotes row = record { written = changed-none _ row; summed = sum-none }
 
-module _ {inside : List Bool} {allocable used rates row₀ : List ℕ} (h : Usable inside allocable used rates (length row₀)) {row : List ℕ} {all i : ℕ} (w : UsableTo inside allocable used rates row₀ row all i) where
+module _ {inside : List Bool} {allocable used : List ℕ} {quotes : List Quote} {row₀ : List ℕ} (h : Usable inside allocable used quotes (length row₀)) {row : List ℕ} {all i : ℕ}
+    (w : UsableTo inside allocable used quotes row₀ row all i) where
   module _ (l : i < length row₀) {v : ℕ} (e : v ≡ may_use inside allocable used i) where
     abbrev row' : List ℕ
     row' = set row i v
@@ -131,23 +133,23 @@ module _ {inside : List Bool} {allocable used rates row₀ : List ℕ} (h : Usab
     here : get_or row' i 0 ≡ v
     here = get_or-set_same row i v 0 inside-row
 
-    its-value : Summable (get_or rates i 0) (get_or row' i 0) all
-    its-value =
-        summable h.priced l h.few
-        (omega (arith, here, usable_most (get_or inside i false) (get_or allocable i 0) (get_or used i 0) 200_000_000 (h.allocable_most i l))) (sum_kept v w.summed)
+    -- what the value asks
+    pub few : v ≤ most_lots
+    few = omega (arith, e, usable_most (get_or inside i false) (get_or allocable i 0) (get_or used i 0) 200_000_000 (h.allocable_most i l))
 
-    pub value-asks : Summable (get_or rates i 0) v all
-    value-asks = subst (λ (x : ℕ). Summable (get_or rates i 0) x all) here its-value
+    pub small : all ≤ most_sum
+    small = sum_most h.few w.summed
 
-    pub usable-more : {next : ℕ} → ((t : Terms) → get_or rates i 0 ≡ rate t → next ≡ all + value t v) → UsableTo inside allocable used rates row₀ row' next (i + 1)
-    usable-more g = record {
+    pub usable-more : {q : Quote} {next : ℕ} → q ≡ get_or quotes i q → ((t : Terms) → QuoteOf t q → next ≡ all + value t v)
+        → UsableTo inside allocable used quotes row₀ row' next (i + 1)
+    usable-more read g = record {
       written = changed-more _ v inside-row e w.written;
-      summed = sum_more h.priced l (omega (arith, length-set row i v, inside-row)) its-value (λ t q. g t q ∙ ap (λ (x : ℕ). all + value t x) (sym here)) (sum_kept v w.summed);
+      summed = sum_more l (omega (arith, length-set row i v, inside-row)) read (omega (arith, here, few)) (λ t q. g t q ∙ ap (λ (x : ℕ). all + value t x) (sym here)) (sum_kept v w.summed);
     }
 
-  pub usable-all : length row₀ ≤ i → Usables inside allocable used rates (length row₀) row all
+  pub usable-all : length row₀ ≤ i → Usables inside allocable used quotes (length row₀) row all
   usable-all l = record {
     row_is = ext_get_or 0 row (table (length row₀) (may_use inside allocable used)) (w.written.size ∙ sym (length-table (length row₀) _))
         (λ j k. w.written.cells j (omega (arith, w.written.size)) ∙ sym (get_or-table (length row₀) (may_use inside allocable used) j 0 (omega (arith, w.written.size))));
-    worth_is = λ ts sized rated. sum-all w.summed l ts sized rated ∙ ap (worth ts) (take_all (length row₀) row (omega (arith, w.written.size)));
+    worth_is = λ ts sized quoted. sum-all w.summed l ts sized quoted ∙ ap (worth ts) (take_all (length row₀) row (omega (arith, w.written.size)));
   }

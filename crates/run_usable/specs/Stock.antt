@@ -9,7 +9,8 @@ use Rattle.rule.specs.Allocable.{Marks, allocable}
 use Rattle.rule.specs.Filling.{worth}
 use Rattle.rule.specs.Day.{term_size, terms_of, marks_of}
 use Rattle.rule.specs.Layout.{most_participants, most_issues, lots_size, participants_at, issues_at, runs_at, receipts_at, notices_at, book_length, issue_terms, lots_cell, row_cell}
-use Rattle.value.specs.Rated.{Rates, Priced}
+use Rattle.value.specs.Quotes.{Quotes}
+use Rattle.value.specs.declared.Quote.{Quote}
 
 -- issue i's terms and marks in the book
 unfoldable pub terms_in : List ℕ → ℕ → Terms
@@ -59,22 +60,21 @@ pub record Enough (inside : Bool) (allocable used : ℕ) : Type 0 where
   pub enough : inside ≡ true → used ≤ allocable
 
 -- rows of so many issues: which are of the basket, allocable quantities and used lots, no more of the basket's used than allocable, and
--- their rates
-pub record Usable (inside : List Bool) (allocable used rates : List ℕ) (issues : ℕ) : Type 0 where
+-- their quotes
+pub record Usable (inside : List Bool) (allocable used : List ℕ) (quotes : List Quote) (issues : ℕ) : Type 0 where
   pub few : issues ≤ 32
   pub marked : issues ≤ length inside
   pub stock : issues ≤ length allocable
   pub gone : issues ≤ length used
-  pub rates_there : issues ≤ length rates
+  pub quotes_there : issues ≤ length quotes
   pub allocable_most : (i : ℕ) → i < issues → get_or allocable i 0 ≤ 200_000_000
   pub enough : (i : ℕ) → i < issues → get_or inside i false ≡ true → get_or used i 0 ≤ get_or allocable i 0
-  pub priced : Priced issues rates
 
 -- what may be used of issue i
 abbrev pub may_use : List Bool → List ℕ → List ℕ → ℕ → ℕ
 may_use inside allocable used i = usable_of (get_or inside i false) (get_or allocable i 0) (get_or used i 0)
 
 -- what may be used of each issue, and what all of it is worth
-pub record Usables (inside : List Bool) (allocable used rates : List ℕ) (issues : ℕ) (row : List ℕ) (all : ℕ) : Type 0 where
+pub record Usables (inside : List Bool) (allocable used : List ℕ) (quotes : List Quote) (issues : ℕ) (row : List ℕ) (all : ℕ) : Type 0 where
   pub row_is : row ≡ table issues (may_use inside allocable used)
-  pub worth_is : (ts : List Terms) → length ts ≡ issues → Rates ts rates → all ≡ worth ts row
+  pub worth_is : (ts : List Terms) → length ts ≡ issues → Quotes ts quotes → all ≡ worth ts row

@@ -8,12 +8,12 @@ ghost use Rattle.run_usable.specs.Stock.{allocable_in, inside_of, usable_of, Mar
 
 use baskets::Marks;
 use quantities::{Lots, Yen};
-use value::Rate;
+use value::Quote;
 
-// What a run may allocate: each issue's rate, and every participant's allocable quantities in rows as far apart as the book's.
+// What a run may allocate: each issue's quote, and every participant's allocable quantities in rows as far apart as the book's.
 #[derive(Clone, Copy)]
 pub struct Stock<'a> {
-    pub rates: &'a [u64],
+    pub quotes: &'a [Quote],
     pub allocable: &'a [u64],
 }
 
@@ -82,17 +82,17 @@ pub fn usable_row(
     inside: &[bool],
     allocable: &[u64],
     used: &[u64],
-    rates: &[u64],
+    quotes: &[Quote],
     row: &mut [u64],
 ) -> Yen
-    requires { Usable inside.now allocable.now used.now rates.now (length row.old) }
-    ensures { Usables inside.now allocable.now used.now rates.now (length row.old) row.new result.0 }
+    requires { Usable inside.now allocable.now used.now quotes.now (length row.old) }
+    ensures { Usables inside.now allocable.now used.now quotes.now (length row.old) row.new result.0 }
 {
     let mut all = Yen(0);
     for (i, cell) in row.iter_mut().enumerate() {
         let lots = usable(inside[i], Lots(allocable[i]), Lots(used[i]));
         *cell = lots.0;
-        all = Rate(rates[i]).add_value(all, lots);
+        all = quotes[i].add_value(all, lots);
     }
     all
 }

@@ -2,8 +2,9 @@
 use Rattle.std.specs.Prelude.{◌≡◌, ℕ, ◌+◌, ◌-◌, ◌*◌, ◌/◌, ◌≤◌, ◌<◌, min, max, Option, MatchOption}
 use Rattle.rule.specs.Value.{Terms, value, fewest, most}
 use Rattle.rule.specs.Filling.{unit}
-use Rattle.value.specs.Rate.{rate, Valuable}
-use Rattle.value.specs.Rated.{Rated}
+use Rattle.value.specs.Range.{most_lots, most_yen}
+use Rattle.value.specs.Quote.{QuoteOf}
+use Rattle.value.specs.declared.Quote.{Quote}
 use Rattle.turns.specs.declared.Turn.{Turn}
 
 -- what the other issues are worth, where the match has `had` lots of this one and is worth `reached`
@@ -24,44 +25,42 @@ whole_units t usable had reached goal = min (usable / unit) (most t (goal - besi
 pub record Few (lots : ℕ) : Type 0 where
   pub most : lots ≤ 200_000_000
 
--- the match has `had` lots of an issue of this rate, and is worth `reached`
-pub record Part (w had reached : ℕ) : Type 0 where
-  pub rate_least : 3_650_000 ≤ w
-  pub rate_most : w ≤ 116_820_000
-  pub within : (t : Terms) → w ≡ rate t → value t had ≤ reached
-  pub reached_most : reached ≤ 10_000_000_000_000
+-- the match has `had` lots of an issue of this quote, and is worth `reached`
+pub record Part (q : Quote) (had reached : ℕ) : Type 0 where
+  pub within : (t : Terms) → QuoteOf t q → value t had ≤ reached
+  pub reached_most : reached ≤ most_yen
 
 -- lots to be valued, and what they are added to
-pub record Addable (w others lots : ℕ) : Type 0 where
-  pub valuable : Valuable w lots
-  pub others_most : others ≤ 10_000_000_000_000
+pub record Addable (others lots : ℕ) : Type 0 where
+  pub lots_most : lots ≤ most_lots
+  pub others_most : others ≤ most_yen
 
 -- the match does not reach its amount
 pub record Short (reached amount : ℕ) : Type 0 where
   pub below : reached < amount
-  pub amount_most : amount ≤ 10_000_000_000_000
+  pub amount_most : amount ≤ most_yen
 
 -- and it may have up to a bound of the issue
 pub record Raising (had bound reached amount : ℕ) : Type 0 where
   pub short : Short reached amount
   pub bounded : had ≤ bound
-  pub bound_most : bound ≤ 10_000_000_000
+  pub bound_most : bound ≤ most_lots
 
 -- it has none of the issue, and keeps to its target
 pub record Rounding (had usable reached goal : ℕ) : Type 0 where
   pub none : had ≡ 0
   pub usable_most : usable ≤ 200_000_000
   pub kept : reached ≤ goal
-  pub goal_most : goal ≤ 10_000_000_000_000
+  pub goal_most : goal ≤ most_yen
 
 -- n lots of the issue, and what the match is then worth
 pub record Turned (t : Terms) (others n : ℕ) (r : Turn) : Type 0 where
   pub lots : r.lots.0 ≡ n
   pub worth : r.reached.0 ≡ others + value t n
 
--- n lots were taken, whatever the terms of the rate
-abbrev pub Valued : ℕ → ℕ → ℕ → Turn → Type 0
-Valued w others n r = (t : Terms) → Rated t w → Turned t others n r
+-- n lots were taken, whatever the terms of the quote
+abbrev pub Valued : Quote → ℕ → ℕ → Turn → Type 0
+Valued q others n r = (t : Terms) → QuoteOf t q → Turned t others n r
 
 -- the issue had so many lots, and has n: none were taken only where it had n
 abbrev pub Took : Terms → ℕ → ℕ → ℕ → Option Turn → Type 0

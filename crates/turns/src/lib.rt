@@ -1,15 +1,15 @@
-// An issue's turn in a match: how many lots it then has, and what the match is then worth. Rates stand for prices.
+// An issue's turn in a match: how many lots it then has, and what the match is then worth.
 #![tactic(auto)]
 
 ghost use Rattle.std.specs.Prelude.{◌≡◌, ◌-◌, ◌*◌, ◌/◌};
 ghost use Rattle.rule.specs.Value.{Terms, fewest as fewest_of};
-ghost use Rattle.value.specs.Rated.{Rated};
+ghost use Rattle.value.specs.Quote.{QuoteOf};
 ghost use Rattle.rule.specs.Filling.{unit};
 ghost use Rattle.turns.specs.Turns.{besides, Few, Part, Addable, up_to, whole_units, Raising, Rounding, Valued, Took, Short};
 ghost use Rattle.turns.specs.Passes.{next_of, Turnable};
 
 use quantities::{Lots, Yen};
-use value::Rate;
+use value::Quote;
 
 // A unit of a drawn match's first pass.
 const UNIT: Lots = Lots(100_000);
@@ -39,11 +39,11 @@ fn whole_units(lots: Lots) -> Lots
 }
 
 // So many lots of the issue, beside others that are worth so much.
-fn with_lots(rate: Rate, others: Yen, lots: Lots) -> Turn
-    requires { Addable rate.0 others.0 lots.0 }
-    ensures { Valued rate.0 others.0 lots.0 result }
+fn with_lots(quote: Quote, others: Yen, lots: Lots) -> Turn
+    requires { Addable others.0 lots.0 }
+    ensures { Valued quote others.0 lots.0 result }
 {
-    let part = rate.value(lots);
+    let part = quote.value(lots);
     Turn {
         lots,
         reached: Yen(others.0 + part.0),
@@ -53,21 +53,21 @@ fn with_lots(rate: Rate, others: Yen, lots: Lots) -> Turn
 // Where a match stands when an issue's turn comes: the lots that it has of the issue, and what it is worth with all its lots.
 #[derive(Clone, Copy)]
 pub struct Standing {
-    pub rate: Rate,
+    pub quote: Quote,
     pub had: Lots,
     pub reached: Yen,
-    pub ghost part: { Part rate.0 had.0 reached.0 },
+    pub ghost part: { Part quote had.0 reached.0 },
 }
 
 impl Standing {
     // What the match's other issues are worth: all of it, where it has no lot of this one.
     fn others(self) -> Yen
-        ensures { (t : Terms) → Rated t self.rate.0 → result.0 ≡ besides t self.had.0 self.reached.0 }
+        ensures { (t : Terms) → QuoteOf t self.quote → result.0 ≡ besides t self.had.0 self.reached.0 }
     {
         if self.had == Lots(0) {
             return self.reached;
         }
-        let part = self.rate.value(self.had);
+        let part = self.quote.value(self.had);
         Yen(self.reached.0 - part.0)
     }
 
@@ -75,47 +75,47 @@ impl Standing {
     // Where all of them stay below the amount nothing is divided.
     fn take_up_to(self, bound: Lots, amount: Yen) -> Option<Turn>
         requires { Raising self.had.0 bound.0 self.reached.0 amount.0 }
-        ensures { (t : Terms) → Rated t self.rate.0 → Took t self.had.0 self.reached.0 (up_to t bound.0 self.had.0 self.reached.0 amount.0) result }
+        ensures { (t : Terms) → QuoteOf t self.quote → Took t self.had.0 self.reached.0 (up_to t bound.0 self.had.0 self.reached.0 amount.0) result }
     {
         if bound <= self.had {
             return None;
         }
         let rest = self.others();
-        let all = with_lots(self.rate, rest, bound);
+        let all = with_lots(self.quote, rest, bound);
         if all.reached < amount {
             return Some(all);
         }
-        let fewest = self.rate.fewest(Yen(amount.0 - rest.0));
-        Some(with_lots(self.rate, rest, fewest))
+        let fewest = self.quote.fewest(Yen(amount.0 - rest.0));
+        Some(with_lots(self.quote, rest, fewest))
     }
 
     // "the most units of 100,000 lots that keep the match's value at or below the target", in a match that has no lot of the issue.
-    // Nothing is divided by the rate where a unit is worth more than is left, or all whole units stay within it.
+    // Nothing is divided by what a lot is worth where a unit is worth more than is left, or all whole units stay within it.
     fn take_units(self, usable: Lots, target: Yen) -> Option<Turn>
         requires { Rounding self.had.0 usable.0 self.reached.0 target.0 }
-        ensures { (t : Terms) → Rated t self.rate.0 → Took t self.had.0 self.reached.0 (whole_units t usable.0 self.had.0 self.reached.0 target.0) result }
+        ensures { (t : Terms) → QuoteOf t self.quote → Took t self.had.0 self.reached.0 (whole_units t usable.0 self.had.0 self.reached.0 target.0) result }
     {
         if usable < UNIT {
             return None;
         }
         let room = Yen(target.0 - self.reached.0);
-        if room < self.rate.least(UNIT) {
+        if room < self.quote.least(UNIT) {
             return None;
         }
         let whole = whole_units(usable);
-        let all = with_lots(self.rate, self.reached, whole);
+        let all = with_lots(self.quote, self.reached, whole);
         if all.reached <= target {
             return Some(all);
         }
-        let most = self.rate.most(room);
-        Some(with_lots(self.rate, self.reached, Lots(most.0 / UNIT.0 * UNIT.0)))
+        let most = self.quote.most(room);
+        Some(with_lots(self.quote, self.reached, Lots(most.0 / UNIT.0 * UNIT.0)))
     }
 
     // "each issue's remainder under a unit, as counted when the match began": the first pass took whole units. Where no further unit is
     // left, the remainder is all that is left.
     fn take_remainder(self, usable: Lots, amount: Yen) -> Option<Turn>
         requires { Turnable Pass.Remainders self.had.0 usable.0 self.reached.0 amount.0 }
-        ensures { (t : Terms) → Rated t self.rate.0 → Took t self.had.0 self.reached.0 (next_of Pass.Remainders t usable.0 self.had.0 self.reached.0 amount.0) result }
+        ensures { (t : Terms) → QuoteOf t self.quote → Took t self.had.0 self.reached.0 (next_of Pass.Remainders t usable.0 self.had.0 self.reached.0 amount.0) result }
     {
         let left = Lots(usable.0 - self.had.0);
         if left < UNIT {
@@ -132,7 +132,7 @@ impl Standing {
     // The issue's turn in a pass; none where it takes nothing.
     pub fn next(self, pass: Pass, usable: Lots, amount: Yen) -> Option<Turn>
         requires { Turnable pass self.had.0 usable.0 self.reached.0 amount.0 }
-        ensures { (t : Terms) → Rated t self.rate.0 → Took t self.had.0 self.reached.0 (next_of pass t usable.0 self.had.0 self.reached.0 amount.0) result }
+        ensures { (t : Terms) → QuoteOf t self.quote → Took t self.had.0 self.reached.0 (next_of pass t usable.0 self.had.0 self.reached.0 amount.0) result }
     {
         match pass {
             // "the amount rounded down to a multiple of 5,000,000,000 yen"
@@ -145,10 +145,10 @@ impl Standing {
     // "the fewest further lots of one forced issue reach the amount".
     pub fn further_lots(self, amount: Yen) -> Lots
         requires { Short self.reached.0 amount.0 }
-        ensures { (t : Terms) → Rated t self.rate.0 → result.0 ≡ fewest_of t (amount.0 - besides t self.had.0 self.reached.0) - self.had.0 }
+        ensures { (t : Terms) → QuoteOf t self.quote → result.0 ≡ fewest_of t (amount.0 - besides t self.had.0 self.reached.0) - self.had.0 }
     {
         let rest = self.others();
-        let fewest = self.rate.fewest(Yen(amount.0 - rest.0));
+        let fewest = self.quote.fewest(Yen(amount.0 - rest.0));
         Lots(fewest.0 - self.had.0)
     }
 }

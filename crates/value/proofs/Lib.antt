@@ -1,5 +1,5 @@
 -- What belongs to no one function.
-pub mod RateLaws
+pub mod QuoteLaws
 pub mod TermLaws
 pub mod SumLaws
 pub mod OrderLaws

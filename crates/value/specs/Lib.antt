@@ -1,3 +1,4 @@
 -- The definitions that the contracts cite.
-pub mod Rate
-pub mod Rated
+pub mod Range
+pub mod Quote
+pub mod Quotes

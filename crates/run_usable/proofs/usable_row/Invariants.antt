@@ -4,7 +4,7 @@ use Rattle.run_usable.proofs.StockLaws.{UsableTo}
 use Rattle.run_usable.proofs.usable_row.Given as goal
 
 abbrev pub invariant-loop-i : goal.invariant-loop-i
-invariant-loop-i l = UsableTo l.inside l.allocable l.used l.rates l.initial.row l.row l.all.0 l.i
+invariant-loop-i l = UsableTo l.inside l.allocable l.used l.quotes l.initial.row l.row l.all.0 l.i
 
 abbrev pub decreases-loop-i : goal.decreases-loop-i
 decreases-loop-i l = length l.initial.row - l.i

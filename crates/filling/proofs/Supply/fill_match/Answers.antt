@@ -1,6 +1,6 @@
 -- `filling::Supply::fill_match` meets its contract. Assumes nothing.
 use Rattle.std.proofs.Common.{length, arith, refl, rules}
-use Rattle.value.specs.Rated.{terms_in}
+use Rattle.value.specs.Quotes.{terms_in}
 use Rattle.value.proofs.OrderLaws.{lt-yes}
 use Rattle.filling.proofs.MatchLaws.{row-places, carried, carry-filled, third-short, otherwise}
 use Rattle.filling.proofs.Supply.fill_match.Goals as goal

@@ -1,7 +1,7 @@
 -- `filling::Supply::force` meets its contract. Assumes nothing.
 use Rattle.std.proofs.Common.{◌≡◌, ◌<◌, ℕ, length, take, arith, refl, ap, ◌∙◌, length-take-le}
 use Rattle.rule.specs.Filling.{forced_issue}
-use Rattle.value.specs.Rated.{terms_in}
+use Rattle.value.specs.Quotes.{terms_in}
 use Rattle.filling.proofs.MatchLaws.{forced-below, forced-part, force-filled}
 use Rattle.filling.proofs.Supply.force.Goals.{After-forced_issue-i}
 use Rattle.filling.proofs.Supply.force.Goals as goal
@@ -21,7 +21,7 @@ pub offset_bounds-self-i : goal.offset_bounds-self-i
 offset_bounds-self-i c = omega (arith, below (goal.at.offset_bounds-self-i c).After-forced_issue-i, c.args.self.now.supplied.issues_most)
 
 pub bounds-self-i : goal.bounds-self-i
-bounds-self-i c = omega (arith, below (goal.at.bounds-self-i c).After-forced_issue-i, c.args.self.now.supplied.rates_there)
+bounds-self-i c = omega (arith, below (goal.at.bounds-self-i c).After-forced_issue-i, c.args.self.now.supplied.quotes_there)
 
 pub offset_bounds-self-i-2 : goal.offset_bounds-self-i-2
 offset_bounds-self-i-2 c = omega (arith, below (goal.at.offset_bounds-self-i-2 c).After-forced_issue-i, c.args.self.now.supplied.issues_most)
@@ -31,8 +31,8 @@ bounds-self-i-2 c = below (goal.at.bounds-self-i-2 c).After-forced_issue-i
 
 pub invariant_of-standing : goal.invariant_of-standing
 invariant_of-standing c =
-    record { part = forced-part c.args.self.now.supplied c.args.basket _ (forced (goal.at.invariant_of-standing c).After-forced_issue-i) (omega (arith, c.requires.below, c.requires.amount_most)) }
+    record { part = forced-part c.args.self.now.supplied c.args.basket _ (forced (goal.at.invariant_of-standing c).After-forced_issue-i) _ (omega (arith, c.requires.below, c.requires.amount_most)) }
 
 pub returns : goal.returns
 returns c =
-    force-filled c.args.self.now.supplied c.args.basket _ (forced (goal.at.returns c).After-forced_issue-i) c.further_lots-further.ensures c.copy_from_slice.ensures.after refl refl refl
+    force-filled c.args.self.now.supplied c.args.basket _ (forced (goal.at.returns c).After-forced_issue-i) _ c.further_lots-further.ensures c.copy_from_slice.ensures.after refl refl refl

@@ -1,17 +1,17 @@
 -- `turns::Standing::others` meets its contract. Assumes nothing.
 use Rattle.std.proofs.Common.{◌-◌, ap, arith, ℕ}
 use Rattle.value.proofs.OrderLaws.{eq_yes}
-use Rattle.turns.proofs.TurnLaws.{besides-none, had-valuable, part-there}
+use Rattle.turns.proofs.TurnLaws.{besides-none, had-most, part-there}
 use Rattle.turns.proofs.Standing.others.Goals as goal
 
 pub returns-then-eq : goal.returns-then-eq
 returns-then-eq c = λ t q. besides-none t _ (eq_yes _ _ c.eq.ensures c.if-eq.true)
 
 pub value-part-requires : goal.value-part-requires
-value-part-requires c = had-valuable c.args.self.part
+value-part-requires c = had-most c.args.self.part
 
 pub overflow_sub-result : goal.overflow_sub-result
 overflow_sub-result c = omega (arith, part-there c.args.self.part c.value-part.ensures)
 
 pub returns : goal.returns
-returns c = λ t q. ap (λ (part : ℕ). c.args.self.reached.0 - part) (c.value-part.ensures t q.rated)
+returns c = λ t q. ap (λ (part : ℕ). c.args.self.reached.0 - part) (c.value-part.ensures t q)

@@ -1,7 +1,7 @@
 -- `turns::Standing::take_up_to` meets its contract. Assumes nothing.
 use Rattle.std.proofs.Common.{arith}
 use Rattle.value.proofs.OrderLaws.{le-yes, lt-yes, lt-no}
-use Rattle.turns.proofs.TurnLaws.{some-price, terms-of, some-terms, up_none, rest_below, bound-addable, up-all, few-addable, up-few}
+use Rattle.turns.proofs.TurnLaws.{up_none, rest_below, bound-addable, up-all, few-addable, up-few}
 use Rattle.turns.proofs.Standing.take_up_to.Goals as goal
 
 pub returns-then-le : goal.returns-then-le
@@ -19,12 +19,8 @@ overflow_sub-amount c = omega (arith, rest_below c.args.self.part c.requires.sho
 
 pub with_lots-requires : goal.with_lots-requires
 with_lots-requires c =
-    let s = c.args.self.part in
-    let q = some-terms s in
-    few-addable s c.requires.short c.others-rest.ensures c.requires q (omega (arith, (c.with_lots-all.ensures (terms-of _) q).worth, lt-no c.with_lots-all.result.reached.0 c.args.amount.0 c.lt.ensures c.if-lt.false))
-    (c.fewest-fewest.ensures _ (some-price q) q.rated)
+    few-addable c.args.self.part c.requires.short c.others-rest.ensures c.requires c.with_lots-all.ensures (lt-no _ _ c.lt.ensures c.if-lt.false) c.fewest-fewest.ensures
 
 pub returns : goal.returns
 returns c = λ t q.
-    up-few c.args.self.part c.requires.short c.others-rest.ensures c.requires q (omega (arith, (c.with_lots-all.ensures t q).worth, lt-no c.with_lots-all.result.reached.0 c.args.amount.0 c.lt.ensures c.if-lt.false))
-    (c.fewest-fewest.ensures t (some-price q) q.rated) c.with_lots.ensures
+    up-few c.args.self.part c.requires.short c.others-rest.ensures c.requires c.with_lots-all.ensures (lt-no _ _ c.lt.ensures c.if-lt.false) c.fewest-fewest.ensures q c.with_lots.ensures
