@@ -5,21 +5,20 @@ use native.Mathlib.Nat.{not-suc-le-zero}
 use native.Mathlib.Omega.{arith}
 use mathlib.Core.Bool.{Bool}
 use mathlib.Core.Logic.{◌⊎◌, inl, inr}
-use mathlib.Core.List.{List}
-use lib.ListN.{length, get_or}
+use mathlib.Core.List.{map, List}
+use lib.ListN.{length-map, length, get_or}
 use lib.Dec.{leb, eqb}
 use borrow.Author.Tests.{le-leb, lt-leb}
 use Rattle.lists.proofs.TableLaws.{length-table}
 use Rattle.lists.proofs.TestLaws.{pick_yes, pick_no, pick-elim}
+use Rattle.rule.specs.Day.{terms_of, marks_of}
 use Rattle.rule.specs.Value.{Terms, no_terms, value, fewest}
-use Rattle.rule.specs.Allocable.{unmarked, allocable}
+use Rattle.rule.specs.Allocable.{unmarked, allocable, Marks}
 use Rattle.rule.specs.Filling.{worth, Taken, nothing, others, fill, covered, forced_issue, plain, cover, force, carry, filled}
 use Rattle.rule.proofs.FillingLaws.{apart}
 use Rattle.rule.proofs.FilledLaws.{covered-all, covered-most}
 use Rattle.value.specs.Quote.{QuoteOf}
-use Rattle.value.specs.Quotes.{terms_in}
 use Rattle.value.specs.declared.Quote.{Quote}
-use Rattle.value.proofs.TermLaws.{terms-length}
 use Rattle.turns.specs.Turns.{besides, Part}
 use Rattle.turns.proofs.TurnLaws.{part-of}
 use Rattle.forced.proofs.ChoiceLaws.{forced-inside}
@@ -53,22 +52,25 @@ carry-filled preferential ts usable order amount w e l c f x =
 
 -- ---- all usable lots go
 
-module _ {terms : List ℕ} {quotes : List Quote} {notified usable order : List ℕ} {all : ℕ} (d : Supplied terms quotes notified usable order all) where
+module _ {issues : List (List ℕ)} {quotes : List Quote} {notified usable order : List ℕ} {all : ℕ} (d : Supplied issues quotes notified usable order all) where
   abbrev ts : List Terms
-  ts = terms_in (length usable) terms
+  ts = map terms_of issues
 
-  module _ (basket : ℕ) (row : List ℕ) {i : ℕ} (e : i ≡ forced_issue basket ts row) where
+  sized : length ts ≡ length usable
+  sized = length-map issues terms_of ∙ d.issues_there
+
+  module _ (basket : ℕ) {i : ℕ} (e : i ≡ forced_issue basket (map terms_of issues) (map marks_of issues) notified) where
     pub forced-below : i < length usable
-    forced-below = omega (arith, e, forced-inside basket ts (omega (arith, terms-length (length usable) terms, d.issues_least)) row, terms-length (length usable) terms)
+    forced-below = omega (arith, e, forced-inside basket ts (map marks_of issues) (omega (arith, sized, d.issues_least)) notified, sized)
 
     in-terms : i < length ts
-    in-terms = omega (arith, forced-below, terms-length (length usable) terms)
+    in-terms = omega (arith, forced-below, sized)
 
     abbrev taken : Taken
     taken = record { lots = usable; last = i }
 
     its-part : others ts taken i + value (get_or ts i no_terms) (get_or usable i 0) ≡ all
-    its-part = apart ts (priced d) taken i in-terms (sym (terms-length (length usable) terms)) ∙ sym d.all_is
+    its-part = apart ts (priced d) taken i in-terms (sym sized) ∙ sym d.all_is
 
     module _ (past : Quote) where
       its-quote : QuoteOf (get_or ts i no_terms) (get_or quotes i past)
@@ -80,7 +82,7 @@ module _ {terms : List ℕ} {quotes : List Quote} {notified usable order : List 
       pub force-filled : {amount further : ℕ} {lots : List ℕ} {r : Filling}
           → ((t : Terms) → QuoteOf t (get_or quotes i past) → further ≡ fewest t (amount - besides t (get_or usable i 0) all) - get_or usable i 0)
           → lots ≡ usable → r.covered.0 ≡ amount → r.forced ≡ i → r.forced_lots.0 ≡ further
-          → FilledAs (force ts usable (forced_issue basket ts row) amount) r lots
+          → FilledAs (force ts usable (forced_issue basket (map terms_of issues) (map marks_of issues) notified) amount) r lots
       unfolding force
       force-filled g l c f x =
           let b : besides (get_or ts i no_terms) (get_or usable i 0) all ≡ others ts taken i = omega (arith, its-part) in
@@ -128,7 +130,7 @@ module _ (runs all amount : ℕ) where
 
 -- ---- for callers: no more may be used than was notified
 
-pub allocable_most : (runs : ℕ) (t : Terms) (notified scheduled : ℕ) → allocable runs t notified scheduled ≤ notified
+pub allocable_most : (runs : ℕ) (m : Marks) (notified scheduled : ℕ) → allocable runs m notified scheduled ≤ notified
 unfolding allocable
-allocable_most zero t notified scheduled = pick-elim (λ n. n ≤ notified) (eqb t.redeemed 0) (min notified scheduled) 0 (omega arith) zero-le
-allocable_most (suc runs) t notified scheduled = pick-elim (λ n. n ≤ notified) (unmarked t) notified 0 (omega arith) zero-le
+allocable_most zero m notified scheduled = pick-elim (λ n. n ≤ notified) (eqb m.redeemed 0) (min notified scheduled) 0 (omega arith) zero-le
+allocable_most (suc runs) m notified scheduled = pick-elim (λ n. n ≤ notified) (unmarked m) notified 0 (omega arith) zero-le

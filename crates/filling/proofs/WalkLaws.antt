@@ -5,19 +5,20 @@ use native.Mathlib.Numerals.{add-one}
 use native.Mathlib.Omega.{arith}
 use mathlib.Core.Logic.{◌≢◌}
 use mathlib.Core.Bool.{Bool, true, false}
-use mathlib.Core.List.{List}
+use mathlib.Core.List.{map, List}
 use Rattle.std.specs.Prelude.{Option, None}
-use lib.ListN.{length, get_or, take, set}
+use lib.ListN.{length-map, length, get_or, take, set}
 use lib.Seq.{get_or-take, length-take-le, take_all}
 use Rattle.lists.specs.Folds.{foldl, Every}
 use Rattle.lists.proofs.FoldLaws.{foldl-take, every-index}
 use Rattle.quantities.specs.declared.Yen.{Yen}
+use Rattle.rule.specs.Day.{terms_of}
 use Rattle.rule.specs.Value.{Terms, no_terms, value}
 use Rattle.rule.specs.Filling.{worth, Taken, nothing, lots_of, others, become, walk, fill_preferential, first_pass, second_pass, fill_drawn, fill}
 use Rattle.rule.proofs.FillingLaws.{Priced, apart, worth-become}
-use Rattle.value.specs.Quotes.{QuotedAt, terms_in}
+use Rattle.value.specs.Quotes.{QuotedAt}
 use Rattle.value.specs.declared.Quote.{Quote}
-use Rattle.value.proofs.TermLaws.{terms-length, priced-at}
+use Rattle.value.proofs.TermLaws.{priced-at}
 use Rattle.turns.specs.Passes.{next_of, Fresh}
 use Rattle.turns.specs.declared.Pass.{Pass}
 use Rattle.turns.specs.declared.Pass.TheVariants.{Units, Remainders, Rest}
@@ -92,23 +93,23 @@ has-at false p d h = tt
 
 -- ---- the invariants
 
-module _ (preferential : Bool) (terms usable order : List ℕ) (amount : ℕ) where
+module _ (preferential : Bool) (ts : List Terms) (usable order : List ℕ) (amount : ℕ) where
   -- at the head of the loop over the passes, and of that over the issues
   pub record AtPass (p : ℕ) (lots : List ℕ) (reached : ℕ) : Type 0 where
-    pub holds : Holds (terms_in (length usable) terms) amount (begun-at preferential (terms_in (length usable) terms) usable order amount p) lots reached
+    pub holds : Holds ts amount (begun-at preferential ts usable order amount p) lots reached
 
   pub record InPass (pass : Pass) (k : ℕ) (lots : List ℕ) (reached : ℕ) : Type 0 where
     pub has : Has preferential pass
-    pub holds : Holds (terms_in (length usable) terms) amount (after preferential (terms_in (length usable) terms) usable order amount pass k) lots reached
+    pub holds : Holds ts amount (after preferential ts usable order amount pass k) lots reached
 
 -- ---- the walks of a match
 
-module _ {terms : List ℕ} {quotes : List Quote} {notified usable order : List ℕ} {all : ℕ} (d : Supplied terms quotes notified usable order all) where
+module _ {issues : List (List ℕ)} {quotes : List Quote} {notified usable order : List ℕ} {all : ℕ} (d : Supplied issues quotes notified usable order all) where
   abbrev ts : List Terms
-  ts = terms_in (length usable) terms
+  ts = map terms_of issues
 
   sized : length ts ≡ length usable
-  sized = terms-length (length usable) terms
+  sized = length-map issues terms_of ∙ d.issues_there
 
   pub priced : Priced ts
   priced i h = priced-at (d.quoted.each i h)
@@ -118,7 +119,7 @@ module _ {terms : List ℕ} {quotes : List Quote} {notified usable order : List 
 
   -- nothing is held, it is worth nothing, and some amount is to be filled
   pub begin : {preferential : Bool} {amount : ℕ} {lots : List ℕ} → (amount ≡ 0 → ⊥) → Asked (length usable) amount lots
-      → AtPass preferential terms usable order amount 0 lots 0
+      → AtPass preferential ts usable order amount 0 lots 0
   begin {amount = amount} some a = record {
     holds = record { below = omega arith; held = record { cells = a.empty; sum = sym (nothing-worth ts priced usable order amount (sym sized) named) } };
   }
@@ -160,8 +161,8 @@ module _ {terms : List ℕ} {quotes : List Quote} {notified usable order : List 
   -- ---- the two walks
 
   module _ {preferential : Bool} {amount : ℕ} {ps : List Pass} (e : ps ≡ passes_of preferential) where
-    pub enter : {p : ℕ} {lots : List ℕ} {reached : ℕ} → p < length ps → AtPass preferential terms usable order amount p lots reached
-        → InPass preferential terms usable order amount (get_or ps p Units) 0 lots reached
+    pub enter : {p : ℕ} {lots : List ℕ} {reached : ℕ} → p < length ps → AtPass preferential ts usable order amount p lots reached
+        → InPass preferential ts usable order amount (get_or ps p Units) 0 lots reached
     enter {p} {lots} {reached} h a =
         let l : p < length (passes_of preferential) = rw e at h in
         rw e (record {
@@ -170,7 +171,7 @@ module _ {terms : List ℕ} {quotes : List Quote} {notified usable order : List 
         })
 
     pub leave : {p k : ℕ} {lots : List ℕ} {reached : ℕ} → p < length ps → length order ≤ k
-        → InPass preferential terms usable order amount (get_or ps p Units) k lots reached → AtPass preferential terms usable order amount (p + 1) lots reached
+        → InPass preferential ts usable order amount (get_or ps p Units) k lots reached → AtPass preferential ts usable order amount (p + 1) lots reached
     leave {p} {k} {lots} {reached} h l a =
         let pass : Pass = get_or (passes_of preferential) p Units in
         let q : after preferential ts usable order amount pass k ≡ begun-at preferential ts usable order amount (p + 1) =
@@ -180,11 +181,11 @@ module _ {terms : List ℕ} {quotes : List Quote} {notified usable order : List 
         ∙ ap (begun-at preferential ts usable order amount) (sym (add-one p)) in
         record { holds = subst (λ (s : Taken). Holds ts amount s lots reached) q (rw e at a).holds }
 
-    pub done : {p : ℕ} {lots : List ℕ} {reached : ℕ} → length ps ≤ p → AtPass preferential terms usable order amount p lots reached
+    pub done : {p : ℕ} {lots : List ℕ} {reached : ℕ} → length ps ≤ p → AtPass preferential ts usable order amount p lots reached
         → lots ≡ (fill preferential ts usable order amount).lots
     done {p} h a = a.holds.held.cells ∙ ap (λ (s : Taken). s.lots) (all-over ts usable order amount preferential p (rw e at h))
 
-  module _ {preferential : Bool} {amount : ℕ} {pass : Pass} {k : ℕ} {lots : List ℕ} {reached : ℕ} (a : InPass preferential terms usable order amount pass k lots reached) (at : k < length order) where
+  module _ {preferential : Bool} {amount : ℕ} {pass : Pass} {k : ℕ} {lots : List ℕ} {reached : ℕ} (a : InPass preferential ts usable order amount pass k lots reached) (at : k < length order) where
     stands : Stands ts usable order amount pass (after preferential ts usable order amount pass k)
     stands = stands_at ts priced usable order amount (sym sized) named preferential pass k
 
@@ -204,7 +205,7 @@ module _ {terms : List ℕ} {quotes : List Quote} {notified usable order : List 
           rw (foldl-take (step ts usable order amount pass) order k 0 (begun preferential ts usable order amount pass) at)
           (onward stands a.holds.held (d.named.inside k at) (t (get_or ts (get_or order k 0) no_terms) (d.quoted.each (get_or order k 0) (omega (arith, d.named.inside k at, sized)))))
 
-      pub on : r < amount → InPass preferential terms usable order amount pass (k + 1) lots' r
+      pub on : r < amount → InPass preferential ts usable order amount pass (k + 1) lots' r
       on l = record { has = a.has; holds = record { below = l; held = one_more } }
 
       pub out : amount ≤ r → lots' ≡ (fill preferential ts usable order amount).lots
@@ -212,6 +213,6 @@ module _ {terms : List ℕ} {quotes : List Quote} {notified usable order : List 
 
     -- the issue takes nothing
     pub passed : (turn : Option Yen) {lots' : List ℕ} → turn ≡ None → Stepped pass quotes lots usable (get_or order k 0) reached amount lots' turn
-        → InPass preferential terms usable order amount pass (k + 1) lots' reached
+        → InPass preferential ts usable order amount pass (k + 1) lots' reached
     passed turn {lots'} none t =
         on (subst (λ (o : Option Yen). Stepped pass quotes lots usable (get_or order k 0) reached amount lots' o) none t) a.holds.below

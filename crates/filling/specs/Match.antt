@@ -1,8 +1,10 @@
 -- What one match may use, what it asks, and what it was filled with. Assumes nothing.
-use Rattle.std.specs.Prelude.{◌≡◌, Bool, List, ℕ, ◌*◌, ◌≤◌, ◌<◌, length, get_or}
+use Rattle.std.specs.Prelude.{◌≡◌, Bool, List, map, ℕ, ◌≤◌, ◌<◌, length, get_or}
 use Rattle.rule.specs.Value.{Terms}
+use Rattle.rule.specs.Day.{terms_of}
+use Rattle.rule.specs.Layout.{most_issues}
 use Rattle.rule.specs.Filling.{worth, Filled, filled}
-use Rattle.value.specs.Quotes.{Quotes, terms_in}
+use Rattle.value.specs.Quotes.{Quotes}
 use Rattle.value.specs.declared.Quote.{Quote}
 use Rattle.filling.specs.Rows.{Named}
 use Rattle.filling.specs.declared.Filling.{Filling}
@@ -16,18 +18,17 @@ pub record Idle (runs all amount : ℕ) : Type 0 where
   pub same : (preferential : Bool) (ts : List Terms) (usable order order' : List ℕ) (forced : ℕ) → all ≡ worth ts usable
       → filled runs preferential ts usable order forced amount ≡ filled runs preferential ts usable order' forced amount
 
--- usable lots of each of the day's issues, and rows that have its terms, its quote and its notified lots; an order, and what all usable
--- lots are worth
-pub record Supplied (terms : List ℕ) (quotes : List Quote) (notified usable order : List ℕ) (all : ℕ) : Type 0 where
+-- the day's issues, and rows that have the quote of each, its notified and its usable lots; an order, and what all usable lots are worth
+pub record Supplied (issues : List (List ℕ)) (quotes : List Quote) (notified usable order : List ℕ) (all : ℕ) : Type 0 where
   pub issues_least : 1 ≤ length usable
-  pub issues_most : length usable ≤ 32
-  pub cells : 6 * length usable ≤ length terms
+  pub issues_most : length usable ≤ most_issues
+  pub issues_there : length issues ≡ length usable
   pub quotes_there : length usable ≤ length quotes
-  pub notified_there : length usable ≤ length notified
-  pub quoted : Quotes (terms_in (length usable) terms) quotes
+  pub notified_there : length notified ≡ length usable
+  pub quoted : Quotes (map terms_of issues) quotes
   pub usable_most : (i : ℕ) → i < length usable → get_or usable i 0 ≤ 200_000_000
   pub named : Named (length usable) order
-  pub all_is : all ≡ worth (terms_in (length usable) terms) usable
+  pub all_is : all ≡ worth (map terms_of issues) usable
 
 -- all usable lots are worth less than the amount, and there is a row for them
 pub record Forcible (issues all amount places : ℕ) : Type 0 where

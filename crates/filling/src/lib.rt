@@ -1,9 +1,8 @@
 // How many lots of which issues a match gets. Everything is by issue number; quotes stand for prices.
 #![tactic(auto)]
 
-ghost use Rattle.std.specs.Prelude.{◌≡◌, false, length, take};
-ghost use Rattle.rule.specs.Filling.{covered as covered_of, fill as fill_of, forced_issue, force as force_of, filled};
-ghost use Rattle.value.specs.Quotes.{terms_in};
+ghost use Rattle.std.specs.Prelude.{◌≡◌, false, length};
+ghost use Rattle.rule.specs.Filling.{covered as covered_of, fill as fill_of, force as force_of, filled};
 ghost use Rattle.filling.specs.Rows.{passes_of, Ready, Stepped, Asked};
 ghost use Rattle.filling.specs.Match.{Coverable, Idle, Supplied, Forcible, FilledAs};
 
@@ -63,21 +62,23 @@ pub struct Filling {
     pub forced_lots: Lots,
 }
 
-// What a match may use of its deliverer's lots, and in which order: `all` is what all usable lots are worth. There are six terms to an
-// issue, and the order need not name every issue. Rows of cells, no row of structs: terms and notified lots stand so in the book, and an order
-// names an issue by its number in each row.
+// What a match may use of its deliverer's lots, and in which order: `all` is what all usable lots are worth. The order need not name every
+// issue. Rows of cells, no row of structs: terms and notified lots stand so in the book, and an order names an issue by its number in each
+// row.
 #[derive(Clone, Copy)]
 pub struct Supply<'a> {
-    pub terms: &'a [u64],
+    pub issues: &'a [layout::Terms],
     pub quotes: &'a [Quote],
     pub notified: &'a [u64],
     pub usable: &'a [u64],
     pub order: &'a [u64],
     pub all: Yen,
-    pub ghost supplied: { Supplied terms.now quotes.now notified.now usable.now order.now all.0 },
+    pub ghost supplied: { Supplied issues.now quotes.now notified.now usable.now order.now all.0 },
 }
 
 impl Supply<'_> {
+    ghost use Rattle.filling.specs.Supply.{terms_in, forced_in};
+
     // One match, filled: `runs` are the runs done, and the lots go into a lent row of zeros. What is short is forced in run 3 and carried
     // before: "the shortage .. stays in both positions; the rest is the covered amount and is filled afresh". Where nothing is short, all
     // of the amount is covered.
@@ -90,7 +91,7 @@ impl Supply<'_> {
         lots: &mut [u64],
     ) -> Filling
         requires { Asked (length self.now.usable.now) amount.0 lots.old }
-        ensures { FilledAs (filled runs preferential (terms_in (length self.now.usable.now) self.now.terms.now) self.now.usable.now self.now.order.now (forced_issue basket (terms_in (length self.now.usable.now) self.now.terms.now) (take (length self.now.usable.now) self.now.notified.now)) amount.0) result lots.new }
+        ensures { FilledAs (filled runs preferential (terms_in self.now) self.now.usable.now self.now.order.now (forced_in basket self.now) amount.0) result lots.new }
     {
         if runs >= 2 && self.all < amount {
             return self.force(basket, amount, lots);
@@ -107,11 +108,10 @@ impl Supply<'_> {
     // "In run 3 all usable lots go, and the fewest further lots of one forced issue reach the amount".
     fn force(&self, basket: u64, amount: Yen, lots: &mut [u64]) -> Filling
         requires { Forcible (length self.now.usable.now) self.now.all.0 amount.0 (length lots.old) }
-        ensures { FilledAs (force_of (terms_in (length self.now.usable.now) self.now.terms.now) self.now.usable.now (forced_issue basket (terms_in (length self.now.usable.now) self.now.terms.now) (take (length self.now.usable.now) self.now.notified.now)) amount.0) result lots.new }
+        ensures { FilledAs (force_of (terms_in self.now) self.now.usable.now (forced_in basket self.now) amount.0) result lots.new }
     {
         lots.copy_from_slice(self.usable);
-        let notified = &self.notified[..self.usable.len()];
-        let i = forced::forced_issue(self.terms, basket, notified);
+        let i = forced::forced_issue(self.issues, basket, self.notified);
         let standing = Standing {
             quote: self.quotes[i],
             had: Lots(self.usable[i]),
@@ -131,7 +131,7 @@ impl Supply<'_> {
     #[inline(never)]
     fn fill(&self, preferential: bool, amount: Yen, lots: &mut [u64])
         requires { Asked (length self.now.usable.now) amount.0 lots.old }
-        ensures { lots.new ≡ (fill_of preferential (terms_in (length self.now.usable.now) self.now.terms.now) self.now.usable.now self.now.order.now amount.0).lots }
+        ensures { lots.new ≡ (fill_of preferential (terms_in self.now) self.now.usable.now self.now.order.now amount.0).lots }
     {
         if amount == Yen(0) {
             return;

@@ -140,7 +140,17 @@ pub fn lots(book: &[u64], at: usize, participant: usize, issues: usize) -> &[u64
     &book[from..from + issues]
 }
 
-// All participants' rows of the same.
+// The same among rows of lots that stand by themselves.
+pub fn own_lots(rows: &[u64], participant: usize, issues: usize) -> &[u64]
+    requires { (length rows.now ≡ lots_size) × (participant < most_participants) × (issues ≤ most_issues) }
+    ensures cells { result.now ≡ block rows.now (row_start participant) issues }
+    ensures size { length result.now ≡ issues }
+{
+    let from = row_start(participant);
+    &rows[from..from + issues]
+}
+
+// All participants' rows in the book.
 pub fn lots_rows(book: &[u64], at: usize, participants: usize) -> &[u64]
     requires { (length book.now ≡ book_length) × (at + lots_size ≤ book_length) × (participants ≤ most_participants) }
     ensures cells { result.now ≡ block book.now at (most_issues * participants) }

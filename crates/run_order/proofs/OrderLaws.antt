@@ -4,11 +4,11 @@ use mathlib.Core.Logic.{◌≢◌, inl}
 use mathlib.Core.Bool.{Bool, false}
 use mathlib.Core.List.{List, [], ◌∷◌, ◌++◌}
 use Rattle.std.specs.Prelude.{Option}
-use Prim.Native.Nat.{ℕ, ◌+◌, ◌-◌, ◌*◌, ◌<◌}
+use Prim.Native.Nat.{ℕ, ◌+◌, ◌<◌}
 use native.Mathlib.Nat.{le_refl}
 use native.Mathlib.Decide.{ℕ_discrete}
 use native.Mathlib.Omega.{arith}
-use lib.ListN.{length, get_or, set, take, drop, length-set}
+use lib.ListN.{length, get_or, set, length-set}
 use lib.Seq.{get_or-set_same, get_or-set_other}
 use lib.Dec.{eqb}
 use borrow.Author.Tests.{eqb-false}
@@ -19,10 +19,11 @@ use Rattle.lists.specs.Folds.{Every}
 use Rattle.lists.specs.Order.{ranked}
 use Rattle.lists.proofs.TableLaws.{length_from}
 use Rattle.lists.proofs.FoldLaws.{every-from}
-use Rattle.lists.proofs.PartLaws.{block-get, part-is, part_length}
+use Rattle.lists.proofs.PartLaws.{block-get, length-block}
 use Rattle.lists.proofs.AppendLaws.{up_to-more}
 use Rattle.lists.proofs.OrderLaws.{ranked-alike}
-use Rattle.rule.specs.Layout.{notices_at}
+use Rattle.lists.specs.Parts.{block}
+use Rattle.rule.specs.Layout.{notices_at, lots_row, row_start}
 use Rattle.filling.specs.Rows.{Named}
 use Rattle.filling.proofs.OnceLaws.{kept-named}
 use Rattle.ranking.specs.Ranks.{Sortable}
@@ -59,82 +60,71 @@ module _ {b before : List ℕ} {d : ℕ} {usable : List ℕ} {orders : List (Arr
   abbrev m : ℕ
   m = issues_in b
 
-  abbrev at : ℕ
-  at = 32 * d
+  module _ {notified : List ℕ} (there : notified ≡ block b (lots_row notices_at d) m) where
+    notified-size : length notified ≡ m
+    notified-size = ap length there ∙ length-block b (lots_row notices_at d) m (omega (arith, L.sized.cells, L.sized.issues, L.deliverer))
 
-  abbrev from : ℕ
-  from = notices_at + 32 * d
+    notified-at : (i : ℕ) → i < m → get_or notified i 0 ≡ notified_in b d i
+    notified-at i l = ap (λ (p : List ℕ). get_or p i 0) there ∙ block-get b (lots_row notices_at d) m i l
 
-  abbrev notified : List ℕ
-  notified = take (from + m - from) (drop from b)
+    abbrev ranks : List ℕ
+    ranks = ranked (λ i. get_or notified i 0) (length notified)
 
-  notified-size : length notified ≡ m
-  notified-size = part_length b from m (omega (arith, L.sized.cells, L.sized.issues, L.deliverer))
+    ranks-are : ranks ≡ ranked (notified_in b d) m
+    ranks-are = ap (ranked (λ i. get_or notified i 0)) notified-size ∙ ranked-alike _ _ m notified-at
 
-  notified-at : (i : ℕ) → i < m → get_or notified i 0 ≡ notified_in b d i
-  notified-at i l = ap (λ (p : List ℕ). get_or p i 0) (part-is b from m) ∙ block-get b from m i l
+    deliverer-there : d < length orders
+    deliverer-there = omega (arith, L.kept.places, L.deliverer)
 
-  abbrev ranks : List ℕ
-  ranks = ranked (λ i. get_or notified i 0) (length notified)
+    pub rank-asks : (x : ArrayVec ℕ) → Rankable notified (get_or orders d x).items
+    rank-asks x =
+        let same : (get_or orders d x).items ≡ ranking_in orders d = ap (λ (o : ArrayVec ℕ). o.items) (get_or_default orders d x (record { items = [] }) deliverer-there) in
+        record {
+          few = omega (arith, notified-size, L.sized.issues);
+          already = λ l. same ∙ L.kept.each d L.deliverer (omega (arith, ap length same)) ∙ sym ranks-are;
+        }
 
-  ranks-are : ranks ≡ ranked (notified_in b d) m
-  ranks-are = ap (ranked (λ i. get_or notified i 0)) notified-size ∙ ranked-alike _ _ m notified-at
+    -- the ranking is back
+    module _ {own : ArrayVec ℕ} (e : own.items ≡ ranks) where
+      abbrev back : List (ArrayVec ℕ)
+      back = set orders d own
 
-  deliverer-there : d < length orders
-  deliverer-there = omega (arith, L.kept.places, L.deliverer)
+      own_row : RankedAt b d back
+      own_row = ap (λ (o : ArrayVec ℕ). o.items) (get_or-set_same orders d own (record { items = [] }) deliverer-there) ∙ e ∙ ranks-are
 
-  pub rank-asks : (x : ArrayVec ℕ) → Rankable notified (get_or orders d x).items
-  rank-asks x =
-      let same : (get_or orders d x).items ≡ ranking_in orders d = ap (λ (o : ArrayVec ℕ). o.items) (get_or_default orders d x (record { items = [] }) deliverer-there) in
-      record {
-        few = omega (arith, notified-size, L.sized.issues);
-        already = λ l. same ∙ L.kept.each d L.deliverer (omega (arith, ap length same)) ∙ sym ranks-are;
+      -- the other rankings are as before
+      other_row : (p : ℕ) → p ≢ d → p < 12 → 0 < length (ranking_in back p) → RankedAt b p back
+      other_row p x y l =
+          let same : ranking_in back p ≡ ranking_in orders p = ap (λ (o : ArrayVec ℕ). o.items) (get_or-set_other orders d p own (record { items = [] }) x) in
+          same ∙ L.kept.each p y (omega (arith, ap length same))
+
+      kept : Orders b back
+      kept = record { places = length-set orders d own ∙ L.kept.places; each = λ p y l. go p y l (ℕ_discrete p d) }
+        where
+          go : (p : ℕ) → p < 12 → 0 < length (ranking_in back p) → Dec (p ≡ d) → RankedAt b p back
+          go p y l (yes x) = subst (λ (q : ℕ). RankedAt b q back) (sym x) own_row
+          go p y l (no x) = other_row p x y l
+
+      pub order-asks : {earlier : List ℕ} → length earlier ≡ m → {lent : List ℕ} → lent ≡ own.items → Orderable notified earlier lent (length usable)
+      order-asks long f = record {
+        issues_most = omega (arith, notified-size, L.sized.issues);
+        earlier = long ∙ sym notified-size;
+        usable_there = omega (arith, notified-size, L.usable_there);
+        notified_most = λ i l. let k : i < m = omega (arith, notified-size) in omega (arith, notified-at i k, L.notified_most i k);
+        ranks = f ∙ e;
       }
 
-  -- the ranking is back
-  module _ {own : ArrayVec ℕ} (e : own.items ≡ ranks) where
-    abbrev back : List (ArrayVec ℕ)
-    back = set orders d own
-
-    own_row : RankedAt b d back
-    own_row = ap (λ (o : ArrayVec ℕ). o.items) (get_or-set_same orders d own (record { items = [] }) deliverer-there) ∙ e ∙ ranks-are
-
-    -- the other rankings are as before
-    other_row : (p : ℕ) → p ≢ d → p < 12 → 0 < length (ranking_in back p) → RankedAt b p back
-    other_row p x y l =
-        let same : ranking_in back p ≡ ranking_in orders p = ap (λ (o : ArrayVec ℕ). o.items) (get_or-set_other orders d p own (record { items = [] }) x) in
-        same ∙ L.kept.each p y (omega (arith, ap length same))
-
-    kept : Orders b back
-    kept = record { places = length-set orders d own ∙ L.kept.places; each = λ p y l. go p y l (ℕ_discrete p d) }
-      where
-        go : (p : ℕ) → p < 12 → 0 < length (ranking_in back p) → Dec (p ≡ d) → RankedAt b p back
-        go p y l (yes x) = subst (λ (q : ℕ). RankedAt b q back) (sym x) own_row
-        go p y l (no x) = other_row p x y l
-
-    abbrev earlier : List ℕ
-    earlier = take (at + m - at) (drop at before)
-
-    pub order-asks : {lent : List ℕ} → lent ≡ own.items → Orderable notified earlier lent (length usable)
-    order-asks f = record {
-      issues_most = omega (arith, notified-size, L.sized.issues);
-      earlier = part_length before at m (omega (arith, L.earlier, L.sized.issues, L.deliverer)) ∙ sym notified-size;
-      usable_there = omega (arith, notified-size, L.usable_there);
-      notified_most = λ i l. let k : i < m = omega (arith, notified-size) in omega (arith, notified-at i k, L.notified_most i k);
-      ranks = f ∙ e;
-    }
-
-    pub all-loaded : (preferential : Bool) {order : List ℕ}
-        → Ordered (length notified) (λ i. order_key preferential (get_or notified i 0) (get_or earlier i 0)) (λ i. get_or usable i 0) order
-        → Loaded b before d preferential usable back order
-    all-loaded preferential o = record {
-      ordered = ordered-moved notified-size
-          (λ i l.
-          let k : i < m = omega (arith, notified-size) in
-          ap₂ (order_key preferential) (notified-at i k) (ap (λ (p : List ℕ). get_or p i 0) (part-is before at m) ∙ block-get before at m i k))
-          (λ i l. le_refl _) o;
-      kept = kept;
-    }
+      pub all-loaded : {earlier : List ℕ} → earlier ≡ block before (row_start d) m → (preferential : Bool) {order : List ℕ}
+          → Ordered (length notified) (λ i. order_key preferential (get_or notified i 0) (get_or earlier i 0)) (λ i. get_or usable i 0) order
+          → Loaded b before d preferential usable back order
+      all-loaded before-is preferential o = record {
+        ordered = ordered-moved notified-size
+            (λ i l.
+            let k : i < m = omega (arith, notified-size) in
+            ap₂ (order_key preferential) (notified-at i k) (ap (λ (p : List ℕ). get_or p i 0) before-is ∙ block-get before (row_start d) m i k))
+            (λ i l. le_refl _) o;
+        kept = kept;
+      }
 
 -- ---- a match's order
 

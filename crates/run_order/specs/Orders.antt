@@ -1,8 +1,8 @@
 -- The order of a deliverer's issues: what asking for it takes, and what it leaves. Assumes nothing.
-use Rattle.std.specs.Prelude.{◌≡◌, ◌⊎◌, Bool, List, [], Option, Some, ℕ, ◌+◌, ◌*◌, ◌≤◌, ◌<◌, length, get_or}
+use Rattle.std.specs.Prelude.{◌≡◌, ◌⊎◌, Bool, List, [], Option, Some, ℕ, ◌≤◌, ◌<◌, length, get_or}
 use Rattle.arrayvec.specs.ArrayVec.{ArrayVec}
 use Rattle.lists.specs.Order.{ranked}
-use Rattle.rule.specs.Layout.{notices_at}
+use Rattle.rule.specs.Layout.{most_participants, most_issues, lots_size, runs_at, notices_at, lots_cell, row_cell}
 use Rattle.matching.specs.declared.Match.{Match}
 use Rattle.issue_order.specs.Ordered.{Ordered, order_key}
 use Rattle.filling.specs.Rows.{Named}
@@ -18,7 +18,7 @@ pub record Same (last : Option Match) (m : Match) : Type 0 where
 
 -- participant d's notified lots of issue i
 abbrev pub notified_in : List ℕ → ℕ → ℕ → ℕ
-notified_in b d i = get_or b (notices_at + 32 * d + i) 0
+notified_in b d i = get_or b (lots_cell notices_at d i) 0
 
 -- participant d's ranking
 abbrev pub ranking_in : List (ArrayVec ℕ) → ℕ → List ℕ
@@ -30,17 +30,17 @@ RankedAt b d orders = ranking_in orders d ≡ ranked (notified_in b d) (issues_i
 
 -- each participant's ranking is so, unless it is empty
 pub record Orders (b : List ℕ) (orders : List (ArrayVec ℕ)) : Type 0 where
-  pub places : length orders ≡ 12
-  pub each : (d : ℕ) → d < 12 → 0 < length (ranking_in orders d) → RankedAt b d orders
+  pub places : length orders ≡ most_participants
+  pub each : (d : ℕ) → d < most_participants → 0 < length (ranking_in orders d) → RankedAt b d orders
 
 -- such a ranking, and the notified lots
 pub record Rankable (notified ranks : List ℕ) : Type 0 where
-  pub few : length notified ≤ 32
+  pub few : length notified ≤ most_issues
   pub already : 0 < length ranks → ranks ≡ ranked (λ i. get_or notified i 0) (length notified)
 
 -- what participant d's issues are ranked by in a match; before are the lots used in earlier baskets
 abbrev pub key_in : List ℕ → List ℕ → ℕ → Bool → ℕ → ℕ
-key_in b before d preferential i = order_key preferential (notified_in b d i) (get_or before (32 * d + i) 0)
+key_in b before d preferential i = order_key preferential (notified_in b d i) (get_or before (row_cell d i) 0)
 
 -- the order is that of match m, where `may` is what may be used of each issue
 abbrev pub OrderedAt : List ℕ → List ℕ → Match → (ℕ → ℕ) → List ℕ → Type 0
@@ -49,9 +49,9 @@ OrderedAt b before m may order = Ordered (issues_in b) (key_in b before m.delive
 pub record Loadable (b before : List ℕ) (d : ℕ) (usable : List ℕ) (orders : List (ArrayVec ℕ)) : Type 0 where
   pub sized : Sized b
   pub usable_there : issues_in b ≤ length usable
-  pub deliverer : d < 12
+  pub deliverer : d < most_participants
   pub notified_most : (i : ℕ) → i < issues_in b → notified_in b d i ≤ 200_000_000
-  pub earlier : length before ≡ 384
+  pub earlier : length before ≡ lots_size
   pub kept : Orders b orders
 
 pub record Loaded (b before : List ℕ) (d : ℕ) (preferential : Bool) (usable : List ℕ) (orders : List (ArrayVec ℕ)) (order : List ℕ) : Type 0 where
@@ -68,5 +68,5 @@ pub record OrderAsked (b before : List ℕ) (last : Option Match) (m : Match) (u
 pub record OrderFor (b before : List ℕ) (m : Match) (usable : List ℕ) (all : ℕ) (orders : List (ArrayVec ℕ)) (order : List ℕ) : Type 0 where
   pub kept : Orders b orders
   pub named : Named (issues_in b) order
-  pub fits : OrderedAt b before m (λ i. get_or usable i 0) order ⊎ Idle (get_or b 2 0) all m.amount.0
+  pub fits : OrderedAt b before m (λ i. get_or usable i 0) order ⊎ Idle (get_or b runs_at 0) all m.amount.0
   pub listed : 0 < length order → OrderedAt b before m (λ i. get_or usable i 0) order

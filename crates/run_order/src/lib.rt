@@ -47,17 +47,14 @@ fn load_order(
     ensures { Loaded book.now before.now m.deliverer m.preferential usable.now orders.new order.new.items }
 {
     let issues = book[layout::ISSUES] as usize;
-    let from = layout::MOST_ISSUES * m.deliverer;
-    let end = from + issues;
-    let notices = layout::NOTICES + from;
-    let notices_end = notices + issues;
-    let notified = &book[notices..notices_end];
+    let notified = layout::lots(book, layout::NOTICES, m.deliverer, issues);
+    let earlier = layout::own_lots(before, m.deliverer, issues);
     let ranks = &mut orders[m.deliverer];
     rank_issues(notified, &mut *ranks);
     issue_order::issue_order(
         m.preferential,
         notified,
-        &before[from..end],
+        earlier,
         ranks.as_slice(),
         usable,
         order,

@@ -1,5 +1,5 @@
 -- A filled match in the book: what booking it asks and leaves. Assumes nothing.
-use Rattle.std.specs.Prelude.{◌≡◌, ℕ, ◌+◌, ◌-◌, ◌*◌, ◌%◌, ◌<◌, ◌≢◌, List, length, nat_lt, slice_index, slice_index_or}
+use Rattle.std.specs.Prelude.{◌≡◌, ℕ, ◌<◌, ◌≢◌, List, length, nat_lt, slice_index, slice_index_or}
 use Rattle.lists.specs.Tests.{pick}
 use Rattle.rule.specs.Day.{baskets}
 use Rattle.rule.specs.Layout.{most_participants, most_issues, today_at, tally_at, book_length, lots_cell, position_cell, mark_cell}

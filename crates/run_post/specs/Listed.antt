@@ -1,5 +1,5 @@
 -- The two lists of a run: what writing one match and its lines asks and leaves. Assumes nothing.
-use Rattle.std.specs.Prelude.{◌≡◌, ℕ, ◌+◌, ◌*◌, ◌<◌, ◌≤◌, List, [], ◌∷◌, map, length, nat_lt, slice_index}
+use Rattle.std.specs.Prelude.{◌≡◌, ℕ, ◌+◌, ◌*◌, ◌<◌, ◌≤◌, List, map, length, nat_lt, slice_index}
 use Rattle.lists.specs.Tables.{up_to}
 use Rattle.lists.specs.Folds.{keep, joined}
 use Rattle.lists.specs.Parts.{over}
