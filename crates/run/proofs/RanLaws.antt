@@ -1,7 +1,7 @@
 -- Laws of a whole run: the loop over the baskets, the notices cleared, and the book that is left. Assumes nothing.
 use mathlib.Core.Path.{◌≡◌, refl, sym, ap, ap₂, ◌∙◌, subst}
 use mathlib.Core.Logic.{◌≢◌, ◌⊎◌, inl, inr}
-use mathlib.Core.List.{List, []}
+use mathlib.Core.List.{map, List, []}
 use Prim.Native.Nat.{ℕ, ◌+◌, ◌-◌, ◌*◌, ◌≤◌, ◌<◌}
 use native.Mathlib.Decide.{ℕ_discrete}
 use native.Mathlib.Omega.{arith}
@@ -12,20 +12,19 @@ use lib.Dec.{ltb}
 use Rattle.lists.specs.Tests.{pick}
 use Rattle.lists.specs.Tables.{table, zeros, row, cell}
 use Rattle.lists.specs.Folds.{joined, Every}
-use Rattle.lists.specs.Parts.{block}
 use Rattle.lists.proofs.TableLaws.{get_or-table, get_or-zeros}
-use Rattle.lists.proofs.PartLaws.{Outside, Stands, length-block}
+use Rattle.lists.proofs.PartLaws.{Outside, Stands}
 use mathlib.Core.Bool.{true}
-use Rattle.rule.specs.Value.{Terms}
-use Rattle.rule.specs.Day.{Day, mark}
+use Rattle.run_match.specs.Filled.{issue_rows, book_terms, book_marks}
+use Rattle.rule.specs.Day.{Day, mark, terms_of}
 use Rattle.rule.specs.Sound.{all_terms_fit}
 use Rattle.rule.specs.Run.{Allocation, used, allocations, ran, covered_from, covered_to, covered_pair, lots_from, lots_to, match_list, line_list, lines_from}
-use Rattle.rule.specs.Layout.{book_length, terms_at, positions_at, notices_at, today_at, tally_at, view, stored, signed, signed_rows, tables_of, position_cell, lots_cell, mark_cell}
+use Rattle.rule.specs.Layout.{book_length, positions_at, notices_at, today_at, tally_at, view, stored, signed, signed_rows, tables_of, position_cell, lots_cell, mark_cell, most_participants, most_issues, lots_size, lots_row, mark_square}
 use Rattle.rule.proofs.BookLaws.{SoundBook}
 use Rattle.rule.proofs.LayoutLaws.{Shaped, Holds, view-shaped, view-holds, signed-cell, given-kept, stored_is, outside-sizes, outside-position, outside-notice, outside-pair, outside-tally}
 use Rattle.rule.proofs.RunLaws.{Runnable}
 use Rattle.rule.proofs.RunSound.{ran-shaped}
-use Rattle.value.specs.Quotes.{Quotes, Termed, terms_in}
+use Rattle.value.specs.Quotes.{Quotes, Termed}
 use Rattle.value.specs.declared.Quote.{Quote}
 use Rattle.value.proofs.TermLaws.{sound-termed}
 use Rattle.std.specs.Array.{AllOfLen}
@@ -44,7 +43,7 @@ use Rattle.lists.proofs.RowLaws.{lent-size, lent-in, lent_out, where-is}
 use Rattle.run_order.proofs.OrderLaws.{orders-begin}
 use Rattle.run_basket.proofs.DoneLaws.{done_none, done_all}
 use Rattle.run_basket.proofs.BookedLaws.{booked-none}
-use Rattle.run_basket.proofs.ReadLaws.{terms-are, low-kept, participants-kept, issues-kept, sized-kept}
+use Rattle.run_basket.proofs.ReadLaws.{terms-are, low-kept, participants-kept, issues-kept, sized-kept, marks-are}
 use Rattle.lists.proofs.AppendLaws.{over_none}
 use Rattle.run_basket.proofs.NextLaws.{runnable}
 
@@ -57,12 +56,12 @@ pub record Baskets (b draw : List ℕ) (t₀ : Lists) (c : List ℕ) (orders : L
   pub same : SameLists t₀ t
 
 module _ (b draw : List ℕ) (stock : Stock) (t₀ : Lists) (h : BasketsAsk b draw stock t₀) where
-  nothing-done : Running b t₀.matches.now t₀.lines.now [] b (zeros 384) t₀
+  nothing-done : Running b t₀.matches.now t₀.lines.now [] b (zeros lots_size) t₀
   unfolding used match_list line_list lines_from
   nothing-done = record {
     booked = booked-none b h.start.book;
     places = refl;
-    gone = λ d i x v. get_or-zeros 384 (32 * d + i);
+    gone = λ d i x v. get_or-zeros lots_size (32 * d + i);
     match_size = refl;
     entries = sym (over_none t₀.matches.now 0);
     line_size = refl;
@@ -72,11 +71,11 @@ module _ (b draw : List ℕ) (stock : Stock) (t₀ : Lists) (h : BasketsAsk b dr
   }
 
   -- no deliverer's issues are ranked
-  pub baskets-none : {orders : List (ArrayVec ℕ)} → AllOfLen (λ o. o.items ≡ []) orders 12 → Baskets b draw t₀ b orders (zeros 384) t₀ 0
+  pub baskets-none : {orders : List (ArrayVec ℕ)} → AllOfLen (λ o. o.items ≡ []) orders 12 → Baskets b draw t₀ b orders (zeros lots_size) t₀ 0
   baskets-none {orders} e = record {
     here = omega arith;
     done = record {
-      running = subst (λ (x : List Allocation). Running b t₀.matches.now t₀.lines.now x b (zeros 384) t₀) (sym (done_none (view b) draw)) nothing-done;
+      running = subst (λ (x : List Allocation). Running b t₀.matches.now t₀.lines.now x b (zeros lots_size) t₀) (sym (done_none (view b) draw)) nothing-done;
       kept = orders-begin b orders e.long (λ d x. e.at d (record { items = [] }) x);
     };
     same = same-lists t₀;
@@ -106,8 +105,8 @@ module _ (b draw : List ℕ) (stock : Stock) (t₀ : Lists) (h : BasketsAsk b dr
 pub record ClearedTo (b c : List ℕ) (p : ℕ) : Type 0 where
   pub here : p ≤ participants_in b
   pub size : length c ≡ length b
-  pub none : (q i : ℕ) → q < p → i < issues_in b → get_or c (notices_at + 32 * q + i) 0 ≡ 0
-  pub kept : (j : ℕ) → ((q i : ℕ) → q < p → i < issues_in b → j ≢ notices_at + 32 * q + i) → get_or c j 0 ≡ get_or b j 0
+  pub none : (q i : ℕ) → q < p → i < issues_in b → get_or c (lots_cell notices_at q i) 0 ≡ 0
+  pub kept : (j : ℕ) → ((q i : ℕ) → q < p → i < issues_in b → j ≢ lots_cell notices_at q i) → get_or c j 0 ≡ get_or b j 0
 
 module _ (b : List ℕ) (s : Sized b) where
   abbrev n : ℕ
@@ -116,12 +115,9 @@ module _ (b : List ℕ) (s : Sized b) where
   abbrev m : ℕ
   m = issues_in b
 
-  module _ {c : List ℕ} {p : ℕ} (w : ClearedTo b c p) (x : p < n) where
-    abbrev at : ℕ
-    at = notices_at + 32 * p
-
-    pub cleared-room : at + m ≤ length c
-    cleared-room = omega (arith, w.size, s.cells, s.participants, s.issues)
+  module _ {c : List ℕ} {p at : ℕ} (w : ClearedTo b c p) (x : p < n) (place : at ≡ lots_row notices_at p) where
+    cleared-room : at + m ≤ length c
+    cleared-room = omega (arith, place, w.size, s.cells, s.participants, s.issues)
 
     pub cleared_more : (part : List ℕ) → part ≡ replicate (length (take (at + m - at) (drop at c))) 0 → ClearedTo b (put_mid at (at + m - at) c part) (p + 1)
     cleared_more part e = record {
@@ -129,7 +125,7 @@ module _ (b : List ℕ) (s : Sized b) where
       size = lent-size P c at m part cleared-room v ∙ w.size;
       none = λ q i y z. cases q i y z (ℕ_discrete q p);
       kept = λ j f.
-          lent_out P c at m part cleared-room v j (where-is j at m (λ i z. f p i (omega arith) z))
+          lent_out P c at m part cleared-room v j (where-is j at m (λ i z q. f p i (omega arith) z (q ∙ ap (λ (o : ℕ). o + i) place)))
           ∙ w.kept j (λ q i y z. f q i (omega arith) z);
     }
       where
@@ -139,11 +135,11 @@ module _ (b : List ℕ) (s : Sized b) where
         v : Becomes P (take (at + m - at) (drop at c)) part
         v = record { size = ap length e ∙ length-replicate (length (take (at + m - at) (drop at c))) 0; cells = λ i z. ap (λ (o : List ℕ). get_or o i 0) e ∙ get_or-replicate (length (take (at + m - at) (drop at c))) i 0 0 z }
 
-        cases : (q i : ℕ) → q < p + 1 → i < m → Dec (q ≡ p) → get_or (put_mid at (at + m - at) c part) (notices_at + 32 * q + i) 0 ≡ 0
+        cases : (q i : ℕ) → q < p + 1 → i < m → Dec (q ≡ p) → get_or (put_mid at (at + m - at) c part) (lots_cell notices_at q i) 0 ≡ 0
         cases q i y z (yes f) =
-            ap (λ (o : ℕ). get_or (put_mid at (at + m - at) c part) (notices_at + 32 * o + i) 0) f ∙ lent-in P c at m part cleared-room v i z
+            ap (λ (o : ℕ). get_or (put_mid at (at + m - at) c part) o 0) (ap (λ (o : ℕ). lots_cell notices_at o i) f ∙ ap (λ (o : ℕ). o + i) (sym place)) ∙ lent-in P c at m part cleared-room v i z
         cases q i y z (no f) =
-            lent_out P c at m part cleared-room v (notices_at + 32 * q + i) (inl (omega (arith, s.issues))) ∙ w.none q i (omega arith) z
+            lent_out P c at m part cleared-room v (lots_cell notices_at q i) (inl (omega (arith, place, s.issues))) ∙ w.none q i (omega arith) z
 
   pub cleared-all : {c : List ℕ} {p : ℕ} → ClearedTo b c p → n ≤ p → Cleared b c
   cleared-all w y = record { size = w.size; none = λ q i x v. w.none q i (omega arith) v; kept = λ j f. w.kept j (λ q i x v. f q i (omega (arith, w.here)) v) }
@@ -179,7 +175,7 @@ module _ (b draw : List ℕ) (s : SoundBook b) (h : Runnable (view b) draw) (c d
   size = length-set d 2 (get_or d 2 0 + 1) ∙ v.size ∙ w.size
 
   -- no notice, and not the count of runs
-  else-kept : (j : ℕ) → j ≢ 2 → ((p i : ℕ) → p < q → i < issues_in b → j ≢ notices_at + 32 * p + i) → get_or e j 0 ≡ get_or c j 0
+  else-kept : (j : ℕ) → j ≢ 2 → ((p i : ℕ) → p < q → i < issues_in b → j ≢ lots_cell notices_at p i) → get_or e j 0 ≡ get_or c j 0
   else-kept j f g = get_or-set_other d 2 j (get_or d 2 0 + 1) 0 f ∙ v.kept j (λ p i x z. g p i (omega (arith, same-n)) (omega (arith, same-m)))
 
   low : (j : ℕ) → j ≢ 2 → j < positions_at → get_or e j 0 ≡ get_or b j 0
@@ -203,7 +199,7 @@ module _ (b draw : List ℕ) (s : SoundBook b) (h : Runnable (view b) draw) (c d
       ∙ ap₂ signed (ap (λ (r : List ℕ). get_or r p 0) (get_or-table 7 (λ k. table q (λ p. o k p)) k [] l) ∙ get_or-table q (λ p. o k p) p 0 x)
       (ap (λ (r : List ℕ). get_or r p 0) (get_or-table 7 (λ k. table q (λ p. u k p)) k [] l) ∙ get_or-table q (λ p. u k p) p 0 x))
 
-  today-stand : (k : ℕ) → k < 7 → Stands e (today_at + 144 * k) 12 q q (row (ran (view b) done).state.today k)
+  today-stand : (k : ℕ) → k < 7 → Stands e (mark_square today_at k) most_participants q q (row (ran (view b) done).state.today k)
   unfolding ran view
   today-stand k l r t x z =
       let f : ℕ → ℕ → ℕ → ℕ = λ k d r. pick (ltb 0 (covered_pair done k d r)) 1 (mark y.state.today k d r) in
@@ -225,7 +221,7 @@ module _ (b draw : List ℕ) (s : SoundBook b) (h : Runnable (view b) draw) (c d
   notices-stand : Stands e notices_at 32 q (issues_in b) (ran (view b) done).state.notices
   unfolding ran view
   notices-stand p i l x =
-      get_or-set_other d 2 (notices_at + 32 * p + i) (get_or d 2 0 + 1) 0 (λ z. omega arith) ∙ v.none p i (omega (arith, same-n)) (omega (arith, same-m))
+      get_or-set_other d 2 (lots_cell notices_at p i) (get_or d 2 0 + 1) 0 (λ z. omega arith) ∙ v.none p i (omega (arith, same-n)) (omega (arith, same-m))
       ∙ sym (ap (λ (r : List ℕ). get_or r i 0) (get_or-table q (λ p. zeros (issues_in b)) p [] l) ∙ get_or-zeros (issues_in b) i)
 
   holds : Holds e (ran (view b) done)
@@ -266,27 +262,26 @@ module _ (b draw : List ℕ) (s : SoundBook b) (h : Runnable (view b) draw) (c d
 -- ---- the whole
 
 module _ (b draw m₀ l₀ : List ℕ) (h : Start b draw m₀ l₀) where
-  pub quotes-asked : Termed (issues_in b) (block b terms_at 192)
+  terms-sound : all_terms_fit (issues_in b) (view b).given.terms (view b).given.marks ≡ true
   unfolding view
-  quotes-asked =
-      sound-termed (issues_in b) (block b terms_at 192)
-      (omega (arith, length-block b terms_at 192 (omega (arith, h.book.readable.size)), h.book.sizes.most))
-      (subst (λ (ts : List Terms). all_terms_fit (issues_in b) ts ≡ true) (sym (terms-are b h.book.sizes.most (omega (arith, h.book.readable.size)))) h.book.day.terms)
+  terms-sound = h.book.day.terms
 
   -- the row of the quotes, as long as there are issues, was lent and is back
-  module _ (row : List Quote) (wide : length row ≡ 32) where
+  module _ (row : List Quote) (wide : length row ≡ most_issues) {issues : List (List ℕ)} (size : length issues ≡ issues_in b) (there : issues ≡ issue_rows b) where
     lent : length (take (issues_in b) row) ≡ issues_in b
     lent = length-take-le (issues_in b) row (omega (arith, wide, h.book.sizes.most))
 
-    pub quotes-lent : Termed (length (take (issues_in b) row)) (block b terms_at 192)
-    quotes-lent = rw lent quotes-asked
+    pub quotes-lent : Termed (length (take (issues_in b) row)) issues
+    quotes-lent =
+        sound-termed (length (take (issues_in b) row)) issues (book_marks b) (size ∙ sym lent)
+        (rw there (ap (λ (n : ℕ). all_terms_fit n (book_terms b) (book_marks b)) lent
+        ∙ ap₂ (all_terms_fit (issues_in b)) (terms-are b) (marks-are b) ∙ terms-sound))
 
     -- the stock has them
-    pub stocked : {quotes : Bor (List Quote)} {allocable : Bor (List ℕ)} → length quotes.now ≡ length (take (issues_in b) row)
-        → Quotes (terms_in (length (take (issues_in b) row)) (block b terms_at 192)) quotes.now
+    pub stocked : {quotes : Bor (List Quote)} {allocable : Bor (List ℕ)} → length quotes.now ≡ length (take (issues_in b) row) → Quotes (map terms_of issues) quotes.now
         → Allocable b allocable.now → Stocked b (record { quotes = quotes; allocable = allocable })
     stocked {quotes} e r a = record {
-      quotes = record { there = omega (arith, e, lent); quoted = subst (λ (n : ℕ). Quotes (terms_in n (block b terms_at 192)) quotes.now) lent r };
+      quotes = record { there = omega (arith, e, lent); quoted = subst (λ (rows : List (List ℕ)). Quotes (map terms_of rows) quotes.now) there r };
       lots = a;
     }
 

@@ -1,9 +1,9 @@
 -- What a whole run asks and leaves. Assumes nothing.
-use Rattle.std.specs.Prelude.{◌≡◌, ◌≢◌, List, ℕ, ◌+◌, ◌*◌, ◌<◌, length, get_or}
+use Rattle.std.specs.Prelude.{◌≡◌, ◌≢◌, List, ℕ, ◌<◌, length, get_or}
 use Rattle.lists.specs.Folds.{joined}
 use Rattle.lists.specs.Parts.{over}
 use Rattle.rule.specs.Run.{allocations, ran, match_list, line_list}
-use Rattle.rule.specs.Layout.{notices_at, view, stored}
+use Rattle.rule.specs.Layout.{notices_at, lots_cell, view, stored}
 use Rattle.run_post.specs.declared.listing.Lists.{Lists}
 use Rattle.run_order.specs.Sizes.{participants_in, issues_in}
 use Rattle.run_usable.specs.declared.Stock.{Stock}
@@ -24,8 +24,8 @@ pub record BasketsDone (b draw m₀ l₀ b' : List ℕ) (t : Lists) : Type 0 whe
 -- the notices of the day's participants and issues are 0, all else is as before
 pub record Cleared (b c : List ℕ) : Type 0 where
   pub size : length c ≡ length b
-  pub none : (p i : ℕ) → p < participants_in b → i < issues_in b → get_or c (notices_at + 32 * p + i) 0 ≡ 0
-  pub kept : (j : ℕ) → ((p i : ℕ) → p < participants_in b → i < issues_in b → j ≢ notices_at + 32 * p + i) → get_or c j 0 ≡ get_or b j 0
+  pub none : (p i : ℕ) → p < participants_in b → i < issues_in b → get_or c (lots_cell notices_at p i) 0 ≡ 0
+  pub kept : (j : ℕ) → ((p i : ℕ) → p < participants_in b → i < issues_in b → j ≢ lots_cell notices_at p i) → get_or c j 0 ≡ get_or b j 0
 
 -- the book, the lists and the counts are the definition's
 pub record Ran (b draw m₀ l₀ : List ℕ) (b' matches lines : List ℕ) (m l : ℕ) : Type 0 where

@@ -12,10 +12,10 @@ mod whole;
 
 use reply::{Counts, Refusal};
 
-// The cells of 77 matches, and of 2,464 lines.
-const MATCH_CELLS: usize = 7 * 77;
+// The cells of the most matches, and of the most lines.
+const MATCH_CELLS: usize = layout::MATCH * layout::MOST_MATCHES;
 
-const LINE_CELLS: usize = 3 * 2464;
+const LINE_CELLS: usize = layout::LINE * layout::MOST_LINES;
 
 // How many times the draw names the participant.
 fn times_named(draw: &[u64], participant: u64) -> usize

@@ -16,11 +16,11 @@ fn run_baskets(book: &mut [u64], draw: &[u64], stock: Stock, lists: &mut Lists)
     ensures done { BasketsDone book.old draw.now lists.old.matches.now lists.old.lines.now book.new lists.new }
     ensures same { SameLists lists.old lists.new }
 {
-    let mut used = [0u64; 384];
+    let mut used = [0u64; layout::LOTS];
     // one for all baskets: zeros for each would be overwritten at once
-    let mut before = [0u64; 384];
+    let mut before = [0u64; layout::LOTS];
     // no deliverer's issues are ranked yet
-    let mut orders: [Order; 12] = Default::default();
+    let mut orders: [Order; layout::MOST_PARTICIPANTS] = Default::default();
     for k in 0..layout::BASKETS {
         run_basket::run_basket(
             &mut *book,
@@ -43,9 +43,8 @@ fn clear_notices(book: &mut [u64])
     let participants = book[layout::PARTICIPANTS] as usize;
     let issues = book[layout::ISSUES] as usize;
     for p in 0..participants {
-        let at = layout::NOTICES + layout::MOST_ISSUES * p;
-        let end = at + issues;
-        book[at..end].fill(0);
+        let at = layout::lots_row(layout::NOTICES, p);
+        book[at..at + issues].fill(0);
     }
 }
 
@@ -56,11 +55,11 @@ pub fn run(book: &mut [u64], draw: &[u64], matches: &mut [u64], lines: &mut [u64
     ensures { Ran book.old draw.now matches.old lines.old book.new matches.new lines.new result.matches result.lines }
 {
     let issues = book[layout::ISSUES] as usize;
-    let mut allocable = [0u64; 384];
+    let mut allocable = [0u64; layout::LOTS];
     run_usable::allocable_rows(&*book, &mut allocable[..]);
-    let mut places = [Quote::LEAST; 32];
+    let mut places = [Quote::LEAST; layout::MOST_ISSUES];
     let quotes = &mut places[..issues];
-    Quote::fill(&book[layout::TERMS..layout::RECEIPTS], &mut *quotes);
+    Quote::fill(layout::terms(&*book, issues), &mut *quotes);
     let stock = Stock {
         quotes,
         allocable: &allocable[..],

@@ -2,7 +2,7 @@
 use mathlib.Core.Path.{◌≡◌, ap, ◌∙◌}
 use mathlib.Core.Bool.{Bool, false}
 use mathlib.Core.List.{List, map}
-use Prim.Native.Nat.{ℕ, ◌+◌, ◌*◌, ◌≤◌}
+use Prim.Native.Nat.{ℕ, ◌+◌, ◌≤◌}
 use native.Mathlib.Omega.{arith}
 use denote.Bor.{Bor}
 use lib.ListN.{length, get_or, take, replicate, length-replicate}
@@ -11,7 +11,7 @@ use Rattle.lists.specs.Tables.{table}
 use Rattle.lists.proofs.PartLaws.{table-agree}
 use Rattle.rule.specs.Baskets.{within}
 use Rattle.rule.specs.Run.{Allocation, basket_plan}
-use Rattle.rule.specs.Layout.{view}
+use Rattle.rule.specs.Layout.{view, row_cell}
 use Rattle.rule.proofs.BookLaws.{SoundBook}
 use Rattle.matching.specs.Plans.{match_of, Planned}
 use Rattle.matching.specs.declared.Match.{Match as Entry}
@@ -85,7 +85,7 @@ module _ (k : ℕ) (b draw : List ℕ) (stock : Stock) (orders : List (ArrayVec 
         planned = ap (map match_of) l ∙ p.matches ∙ plan-same;
         inside_is = inside-is;
         earlier = ap length earlier ∙ s.begun.running.places;
-        before_at = λ d i x v. ap (λ (q : List ℕ). get_or q (32 * d + i) 0) earlier ∙ s.begun.running.gone d i x v;
+        before_at = λ d i x v. ap (λ (q : List ℕ). get_or q (row_cell d i) 0) earlier ∙ s.begun.running.gone d i x v;
       };
     }
 

@@ -2,8 +2,8 @@
 use mathlib.Core.Path.{◌≡◌, refl, sym, ap, ap₂, ◌∙◌, subst}
 use mathlib.Core.Logic.{◌⊎◌, inl, inr}
 use mathlib.Core.Bool.{Bool, true, false}
-use mathlib.Core.List.{List, [], ◌∷◌, ◌++◌}
-use Prim.Native.Nat.{ℕ, ◌+◌, ◌-◌, ◌*◌, ◌<◌}
+use mathlib.Core.List.{List, [], ◌∷◌, ◌++◌, map}
+use Prim.Native.Nat.{ℕ, ◌+◌, ◌-◌, ◌<◌}
 use native.Mathlib.Nat.{le_refl}
 use native.Mathlib.Omega.{arith}
 use lib.ListN.{length, get_or, length-map}
@@ -14,13 +14,14 @@ use Rattle.lists.specs.Order.{ranked}
 use Rattle.lists.specs.Parts.{block}
 use Rattle.lists.proofs.TableLaws.{get_or-table, get_d_map}
 use Rattle.lists.proofs.PartLaws.{blocks-agree, table-agree}
+use Rattle.rule.specs.Allocable.{Marks}
 use Rattle.rule.specs.Value.{Terms, no_terms}
 use Rattle.rule.specs.Baskets.{within}
 use Rattle.rule.specs.Matching.{Match}
 use Rattle.rule.specs.Filling.{Filled, filled, forced_issue}
-use Rattle.rule.specs.Day.{Day}
+use Rattle.rule.specs.Day.{Day, terms_of, marks_of}
 use Rattle.rule.specs.Run.{Allocation, used, used_table, allocable_of, usable, issue_order, allocate, basket_plan}
-use Rattle.rule.specs.Layout.{notices_at, view}
+use Rattle.rule.specs.Layout.{notices_at, view, lots_cell, lots_row, row_cell, runs_at}
 use Rattle.rule.proofs.LayoutLaws.{view-shaped, view-signed}
 use Rattle.rule.proofs.RunLaws.{Runnable, Allocated, allocated}
 use Rattle.rule.proofs.RunLots.{used-append, used-cell}
@@ -36,12 +37,12 @@ use Rattle.arrayvec.specs.ArrayVec.{ArrayVec}
 use Rattle.run_usable.specs.Stock.{inside_of, usable_of}
 use Rattle.run_order.specs.Sizes.{participants_in, issues_in}
 use Rattle.run_order.specs.Orders.{key_in, OrderedAt, OrderFor}
-use Rattle.run_match.specs.Filled.{book_terms, may_use, usable_in, UsableLots, filled_in}
+use Rattle.run_match.specs.Filled.{book_terms, book_marks, may_use, usable_in, UsableLots, filled_in}
 use Rattle.run_match.specs.declared.Basket.{Basket}
 use Rattle.run_post.specs.declared.listing.Lists.{Lists}
 use Rattle.run_basket.specs.Running.{done_to, done_in, done_at, Start, Running, Stocked, Planning}
 use Rattle.run_basket.proofs.DoneLaws.{next_of, done_next, Part, part_at, part-every}
-use Rattle.run_basket.proofs.ReadLaws.{terms-read, notices-read, runs-read, allocable-read, terms-are, low-kept, issues-kept, terms-kept, notices-kept}
+use Rattle.run_basket.proofs.ReadLaws.{terms-read, notices-read, runs-read, allocable-read, terms-are, low-kept, issues-kept, rows-kept, marks-are, notices-kept}
 
 pub runnable : (b draw m₀ l₀ : List ℕ) → Start b draw m₀ l₀ → Runnable (view b) draw
 unfolding view
@@ -124,7 +125,7 @@ module _ (b draw m₀ l₀ : List ℕ) (S : Start b draw m₀ l₀) (B : Basket)
 
   module _ (T : Stocked b B.stock) (c used' : List ℕ) (t : Lists) (R : Running b m₀ l₀ done c used' t)
       (usable' : List ℕ) (all : ℕ) (U : UsableLots c B e used' usable' all) (orders : List (ArrayVec ℕ)) (order : List ℕ) (O : OrderFor c before e usable' all orders order) where
-    used-here : (i : ℕ) → i < m → get_or used' (32 * d + i) 0 ≡ cell (used_table (view b).given (done_to (view b) draw k)) d i + used (done_in (view b) draw k j) d i
+    used-here : (i : ℕ) → i < m → get_or used' (row_cell d i) 0 ≡ cell (used_table (view b).given (done_to (view b) draw k)) d i + used (done_in (view b) draw k j) d i
     unfolding done_at view
     used-here i h =
         R.gone d i deliverer-of-day h ∙ used-append (done_to (view b) draw k) (done_in (view b) draw k j) d i
@@ -146,7 +147,7 @@ module _ (b draw m₀ l₀ : List ℕ) (S : Start b draw m₀ l₀) (B : Basket)
         ∙ table-agree m (may_use B used' d) _ usable-cell
 
     -- the order's keys are the definition's
-    order-of : (preferential : Bool) → ranked (λ i. order_key preferential (get_or b (notices_at + 32 * d + i) 0) (get_or before (32 * d + i) 0)) m
+    order-of : (preferential : Bool) → ranked (λ i. order_key preferential (get_or b (lots_cell notices_at d i) 0) (get_or before (row_cell d i) 0)) m
         ≡ issue_order (view b) (used_table (view b).given (done_to (view b) draw k)) preferential d
     unfolding issue_order view
     order-of true = ranked-alike _ _ m (λ i h. sym (notices-read b d i deliverer-of-day h))
@@ -158,9 +159,9 @@ module _ (b draw m₀ l₀ : List ℕ) (S : Start b draw m₀ l₀) (B : Basket)
     issues-same : issues_in c ≡ m
     issues-same = issues-kept b S.book done c R.booked
 
-    notice-same : (i : ℕ) → i < m → get_or c (notices_at + 32 * d + i) 0 ≡ get_or b (notices_at + 32 * d + i) 0
+    notice-same : (i : ℕ) → i < m → get_or c (lots_cell notices_at d i) 0 ≡ get_or b (lots_cell notices_at d i) 0
     notice-same i h =
-        notices-kept b S.book done c R.booked (notices_at + 32 * d + i) (omega arith) (omega (arith, deliverer-of-day, S.book.sizes.few, S.book.sizes.most))
+        notices-kept b S.book done c R.booked (lots_cell notices_at d i) (omega arith) (omega (arith, deliverer-of-day, S.book.sizes.few, S.book.sizes.most))
 
     abbrev pref : Bool
     pref = e.preferential
@@ -174,35 +175,38 @@ module _ (b draw m₀ l₀ : List ℕ) (S : Start b draw m₀ l₀) (B : Basket)
     order-moved : OrderedAt c before e (λ i. get_or usable' i 0) order → Ordered m key (λ i. get_or usable' i 0) order
     order-moved h =
         ordered-moved issues-same
-        (λ i l. ap (λ (x : ℕ). order_key pref x (get_or before (32 * d + i) 0)) (notice-same i (omega (arith, issues-same)))) (λ i l. le_refl _) h
+        (λ i l. ap (λ (x : ℕ). order_key pref x (get_or before (row_cell d i) 0)) (notice-same i (omega (arith, issues-same)))) (λ i l. le_refl _) h
 
-    notified-same : block c (notices_at + 32 * d) (issues_in c) ≡ row (view b).state.notices d
+    notified-same : block c (lots_row notices_at d) (issues_in c) ≡ row (view b).state.notices d
     unfolding view
     notified-same =
-        ap (block c (notices_at + 32 * d)) issues-same
-        ∙ blocks-agree c b (notices_at + 32 * d) m (R.booked.size ∙ sym S.book.readable.size) notice-same
-        ∙ sym (get_or-table (participants_in b) (λ p. block b (notices_at + 32 * p) m) d [] deliverer-of-day)
+        ap (block c (lots_row notices_at d)) issues-same
+        ∙ blocks-agree c b (lots_row notices_at d) m (R.booked.size ∙ sym S.book.readable.size) notice-same
+        ∙ sym (get_or-table (participants_in b) (λ p. block b (lots_row notices_at p) m) d [] deliverer-of-day)
 
     terms-same : book_terms c ≡ (view b).given.terms
-    terms-same = terms-kept b S.book done c R.booked ∙ terms-are b S.book.sizes.most (omega (arith, S.book.readable.size))
+    terms-same = ap (map terms_of) (rows-kept b S.book done c R.booked) ∙ terms-are b
 
-    runs_same : get_or c 2 0 ≡ (view b).state.runs
-    runs_same = low-kept b S.book done c R.booked 2 (omega arith) ∙ sym (runs-read b)
+    marks-same : book_marks c ≡ (view b).given.marks
+    marks-same = ap (map marks_of) (rows-kept b S.book done c R.booked) ∙ marks-are b
+
+    runs_same : get_or c runs_at 0 ≡ (view b).state.runs
+    runs_same = low-kept b S.book done c R.booked runs_at (omega arith) ∙ sym (runs-read b)
 
     abbrev amount : ℕ
     amount = e.amount.0
 
     abbrev with-order : List ℕ → Filled
-    with-order x = filled (get_or c 2 0) pref (book_terms c) usable' x (forced_issue k (book_terms c) (block c (notices_at + 32 * d) (issues_in c))) amount
+    with-order x = filled (get_or c runs_at 0) pref (book_terms c) usable' x (forced_issue k (book_terms c) (book_marks c) (block c (lots_row notices_at d) (issues_in c))) amount
 
     -- an issue that the order leaves out takes nothing in its turn
     order-kept : (h : Ordered m key (λ i. get_or usable' i 0) order) → with-order (keep h.live (ranked key m)) ≡ with-order (ranked key m)
     order-kept h =
-        filled-kept (get_or c 2 0) pref (book_terms c) usable' (ranked key m) h.live (forced_issue k (book_terms c) (block c (notices_at + 32 * d) (issues_in c))) amount
+        filled-kept (get_or c runs_at 0) pref (book_terms c) usable' (ranked key m) h.live (forced_issue k (book_terms c) (book_marks c) (block c (lots_row notices_at d) (issues_in c))) amount
         (every_map (λ i. i < m) (λ i. h.live i ≡ false → get_or usable' i 0 ≡ 0)
         (λ i l e. h.rest i l e) (ranked key m) (ranked-below key m))
 
-    order-right : OrderedAt c before e (λ i. get_or usable' i 0) order ⊎ Idle (get_or c 2 0) all amount → with-order order ≡ with-order o
+    order-right : OrderedAt c before e (λ i. get_or usable' i 0) order ⊎ Idle (get_or c runs_at 0) all amount → with-order order ≡ with-order o
     order-right (inl h) = ap with-order (order-moved h).names ∙ order-kept (order-moved h) ∙ ap with-order (order-of pref)
     order-right (inr h) = h.same pref (book_terms c) usable' order o _ U.worth_is
 
@@ -211,6 +215,6 @@ module _ (b draw m₀ l₀ : List ℕ) (S : Start b draw m₀ l₀) (B : Basket)
     next-filled =
         let u : List ℕ = usable (view b) k (used_table (view b).given (done_to (view b) draw k)) (done_in (view b) draw k j) d in
         order-right O.fits
-        ∙ ap₂ (λ (r : ℕ) (x : List ℕ). filled r pref (book_terms c) x o (forced_issue k (book_terms c) (block c (notices_at + 32 * d) (issues_in c))) amount) runs_same (U.row ∙ usable_same)
-        ∙ ap (λ (f : List ℕ). filled (view b).state.runs pref (book_terms c) u o (forced_issue k (book_terms c) f) amount) notified-same
-        ∙ ap (λ (ts : List Terms). filled (view b).state.runs pref ts u o (forced_issue k ts (row (view b).state.notices d)) amount) terms-same
+        ∙ ap₂ (λ (r : ℕ) (x : List ℕ). filled r pref (book_terms c) x o (forced_issue k (book_terms c) (book_marks c) (block c (lots_row notices_at d) (issues_in c))) amount) runs_same (U.row ∙ usable_same)
+        ∙ ap (λ (f : List ℕ). filled (view b).state.runs pref (book_terms c) u o (forced_issue k (book_terms c) (book_marks c) f) amount) notified-same
+        ∙ ap₂ (λ (ts : List Terms) (ms : List Marks). filled (view b).state.runs pref ts u o (forced_issue k ts ms (row (view b).state.notices d)) amount) terms-same marks-same

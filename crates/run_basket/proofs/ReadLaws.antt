@@ -16,19 +16,17 @@ use Rattle.lists.specs.Parts.{block, grid}
 use Rattle.lists.proofs.TestLaws.{pick_no, stop}
 use Rattle.lists.proofs.FoldLaws.{fold-kept, every_append, every-all}
 use Rattle.lists.proofs.TableLaws.{get_or-table, get_d_map, length-table}
-use Rattle.lists.proofs.PartLaws.{blocks-agree, grid-get, table-agree, grid-agree}
-use Rattle.rule.specs.Value.{Terms, no_terms}
-use Rattle.rule.specs.Allocable.{allocable}
+use Rattle.lists.proofs.PartLaws.{blocks-agree, grid-get, grid-agree}
+use Rattle.rule.specs.Value.{no_terms}
+use Rattle.rule.specs.Allocable.{allocable, Marks, no_marks}
 use Rattle.rule.specs.Matching.{plan}
-use Rattle.rule.specs.Day.{Day, terms_of}
+use Rattle.rule.specs.Day.{Day, terms_of, term_size, marks_of}
 use Rattle.rule.specs.Run.{Allocation, used_table, allocate, basket_plan, basket, allocable_of, covered_from, covered_to}
-use Rattle.rule.specs.Layout.{terms_at, receipts_at, pairs_at, positions_at, notices_at, today_at, plus, minus, view, signed, position_cell}
+use Rattle.rule.specs.Layout.{terms_at, receipts_at, pairs_at, positions_at, notices_at, today_at, plus, minus, view, signed, position_cell, most_participants, most_issues, participants_at, issues_at, runs_at, issue_terms, lots_cell, position_row, mark_square}
 use Rattle.rule.proofs.BookLaws.{SoundBook}
-use Rattle.matching.proofs.ListLaws.{block-block}
-use Rattle.value.specs.Quotes.{terms_in as terms_of_block}
-use Rattle.run_usable.specs.Stock.{terms_in, allocable_in}
+use Rattle.run_usable.specs.Stock.{terms_in, marks_in, allocable_in}
 use Rattle.run_order.specs.Sizes.{participants_in, issues_in, Sized}
-use Rattle.run_match.specs.Filled.{positions_in, plan_in, book_terms}
+use Rattle.run_match.specs.Filled.{positions_in, plan_in, issue_rows, book_terms, book_marks}
 use Rattle.run_basket.specs.Running.{done_to, BookedTo}
 use Rattle.run_basket.proofs.DoneLaws.{to-more}
 use Rattle.run_basket.proofs.BookedLaws.{booked-none}
@@ -36,48 +34,56 @@ use Rattle.run_basket.proofs.BookedLaws.{booked-none}
 -- ---- the day in the cells
 
 module _ (b : List ℕ) where
+  issue-read : {A : Type 0} (f : List ℕ → A) (d : A) (i : ℕ) → i < issues_in b → get_or (map f (issue_rows b)) i d ≡ f (block b (issue_terms i) term_size)
+  issue-read f d i l =
+      let rows : ℕ → List ℕ = λ p. block b (issue_terms p) term_size in
+      get_d_map f (issue_rows b) i [] d (omega (arith, length-table (issues_in b) rows)) ∙ ap f (get_or-table (issues_in b) rows i [] l)
+
   pub terms-read : (i : ℕ) → i < issues_in b → get_or (view b).given.terms i no_terms ≡ terms_in b i
   unfolding view terms_in
-  terms-read i l =
-      get_d_map terms_of (grid b terms_at 6 (issues_in b) 6) i [] no_terms (omega (arith, length-table (issues_in b) (λ p. block b (terms_at + 6 * p) 6)))
-      ∙ ap terms_of (get_or-table (issues_in b) (λ p. block b (terms_at + 6 * p) 6) i [] l)
+  terms-read i l = issue-read terms_of no_terms i l
 
-  pub notices-read : (p i : ℕ) → p < participants_in b → i < issues_in b → cell (view b).state.notices p i ≡ get_or b (notices_at + 32 * p + i) 0
+  marks-read : (i : ℕ) → i < issues_in b → get_or (view b).given.marks i no_marks ≡ marks_in b i
+  unfolding view marks_in
+  marks-read i l = issue-read marks_of no_marks i l
+
+  pub notices-read : (p i : ℕ) → p < participants_in b → i < issues_in b → cell (view b).state.notices p i ≡ get_or b (lots_cell notices_at p i) 0
   unfolding view
-  notices-read p i l k = grid-get b notices_at 32 (participants_in b) (issues_in b) p i l k
+  notices-read p i l k = grid-get b notices_at most_issues (participants_in b) (issues_in b) p i l k
 
-  receipts-read : (p i : ℕ) → p < participants_in b → i < issues_in b → cell (view b).given.receipts p i ≡ get_or b (receipts_at + 32 * p + i) 0
+  receipts-read : (p i : ℕ) → p < participants_in b → i < issues_in b → cell (view b).given.receipts p i ≡ get_or b (lots_cell receipts_at p i) 0
   unfolding view
-  receipts-read p i l k = grid-get b receipts_at 32 (participants_in b) (issues_in b) p i l k
+  receipts-read p i l k = grid-get b receipts_at most_issues (participants_in b) (issues_in b) p i l k
 
-  pub runs-read : (view b).state.runs ≡ get_or b 2 0
+  pub runs-read : (view b).state.runs ≡ get_or b runs_at 0
   unfolding view
   runs-read = refl
 
   pub allocable-read : (p i : ℕ) → p < participants_in b → i < issues_in b → allocable_of (view b) p i ≡ allocable_in b p i
   unfolding allocable_of allocable_in
   allocable-read p i l k =
-      ap₂ (λ (r : ℕ) (t : Terms). allocable r t (cell (view b).state.notices p i) (cell (view b).given.receipts p i)) runs-read (terms-read i k)
-      ∙ ap₂ (λ (x z : ℕ). allocable (get_or b 2 0) (terms_in b i) x z) (notices-read p i l k) (receipts-read p i l k)
+      ap₂ (λ (r : ℕ) (m : Marks). allocable r m (cell (view b).state.notices p i) (cell (view b).given.receipts p i)) runs-read (marks-read i k)
+      ∙ ap₂ (λ (x z : ℕ). allocable (get_or b runs_at 0) (marks_in b i) x z) (notices-read p i l k) (receipts-read p i l k)
 
-  pub terms-are : issues_in b ≤ 32 → terms_at + 192 ≤ length b → book_terms b ≡ (view b).given.terms
-  unfolding view terms_of_block
-  terms-are few room =
-      ap (map terms_of) (table-agree (issues_in b) (λ p. block (block b terms_at 192) (0 + 6 * p) 6) (λ p. block b (terms_at + 6 * p) 6) (λ p l.
-      let e : terms_at + (0 + 6 * p) ≡ terms_at + 6 * p = omega arith in
-      block-block b terms_at 192 (0 + 6 * p) 6 (omega arith) room ∙ ap (λ (o : ℕ). block b o 6) e))
+  pub terms-are : book_terms b ≡ (view b).given.terms
+  unfolding view
+  terms-are = refl
+
+  pub marks-are : book_marks b ≡ (view b).given.marks
+  unfolding view
+  marks-are = refl
 
   pub plan-read : (draw : List ℕ) (k : ℕ) → k < 7 → plan_in b draw k ≡ basket_plan (view b) draw k
   unfolding plan_in basket_plan view
   plan-read draw k l =
       let n : ℕ = participants_in b in
-      let rows : ℕ → List ℕ = λ q. block b (positions_at + 12 * q) n in
+      let rows : ℕ → List ℕ = λ q. block b (position_row q) n in
       let size : length (table 7 rows) ≡ 7 = length-table 7 rows in
       let side : (f : ℕ → ℕ) → map f (positions_in b k) ≡ row (map (map f) (table 7 rows)) k =
       λ f. sym (get_d_map (map f) (table 7 rows) k [] [] (omega arith) ∙ ap (map f) (get_or-table 7 rows k [] l)) in
-      ap₂ (λ (x : List ℕ) (z : List ℕ). plan (get_or b 2 0) (grid b (pairs_at + 144 * k) 12 n n) draw x z) (side plus) (side minus)
-      ∙ ap (λ (x : List (List ℕ)). plan (get_or b 2 0) x draw (row (map (map plus) (table 7 rows)) k) (row (map (map minus) (table 7 rows)) k))
-      (sym (get_or-table 7 (λ q. grid b (pairs_at + 144 * q) 12 n n) k [] l))
+      ap₂ (λ (x : List ℕ) (z : List ℕ). plan (get_or b runs_at 0) (grid b (mark_square pairs_at k) most_participants n n) draw x z) (side plus) (side minus)
+      ∙ ap (λ (x : List (List ℕ)). plan (get_or b runs_at 0) x draw (row (map (map plus) (table 7 rows)) k) (row (map (map minus) (table 7 rows)) k))
+      (sym (get_or-table 7 (λ q. grid b (mark_square pairs_at q) most_participants n n) k [] l))
 
 -- ---- what a run's bookings leave
 
@@ -91,10 +97,10 @@ module _ (b : List ℕ) (s : SoundBook b) (done : List Allocation) (c : List ℕ
       w.kept j (record { positions = λ k p m q e. omega (arith, s.sizes.few); marks = λ k d r m q o e. omega arith; tally = λ p i m q e. omega arith })
 
   pub issues-kept : issues_in c ≡ issues_in b
-  issues-kept = low-kept 1 (omega arith)
+  issues-kept = low-kept issues_at (omega arith)
 
   pub participants-kept : participants_in c ≡ participants_in b
-  participants-kept = low-kept 0 (omega arith)
+  participants-kept = low-kept participants_at (omega arith)
 
   pub sized-kept : Sized c
   sized-kept = record {
@@ -104,14 +110,18 @@ module _ (b : List ℕ) (s : SoundBook b) (done : List Allocation) (c : List ℕ
     issues = omega (arith, issues-kept, s.sizes.most);
   }
 
-  pub terms-kept : book_terms c ≡ book_terms b
-  terms-kept =
-      ap₂ terms_of_block issues-kept (blocks-agree c b terms_at 192 (w.size ∙ sym s.readable.size) (λ i l. low-kept (terms_at + i) (omega arith)))
+  -- the issues' terms and marks
+  issue-kept : (i : ℕ) → i < most_issues → block c (issue_terms i) term_size ≡ block b (issue_terms i) term_size
+  issue-kept i l = blocks-agree c b (issue_terms i) term_size (w.size ∙ sym s.readable.size) (λ j h. low-kept (issue_terms i + j) (omega arith))
 
-  pub terms-in-kept : (i : ℕ) → i < 32 → terms_in c i ≡ terms_in b i
+  pub terms-in-kept : (i : ℕ) → i < most_issues → terms_in c i ≡ terms_in b i
   unfolding terms_in
-  terms-in-kept i l =
-      ap terms_of (blocks-agree c b (terms_at + 6 * i) 6 (w.size ∙ sym s.readable.size) (λ j h. low-kept (terms_at + 6 * i + j) (omega arith)))
+  terms-in-kept i l = ap terms_of (issue-kept i l)
+
+  pub rows-kept : issue_rows c ≡ issue_rows b
+  rows-kept =
+      ap (λ (n : ℕ). grid c terms_at term_size n term_size) issues-kept
+      ∙ grid-agree c b terms_at term_size (issues_in b) term_size (λ p l. issue-kept p (omega (arith, s.sizes.most)))
 
   none_from : (k p : ℕ) → covered_from [] k p ≡ 0
   unfolding covered_from
@@ -129,22 +139,22 @@ module _ (b : List ℕ) (s : SoundBook b) (done : List Allocation) (c : List ℕ
         ∙ ap₂ (λ (x z : ℕ). signed (cell (view b).state.owed k p - x) (cell (view b).state.due k p - z)) ((fresh p).0 ∙ sym (none_from k p)) ((fresh p).1 ∙ sym (none-to k p))
         ∙ sym ((booked-none b s).positions k p basket l)
 
-    plan-same : (draw : List ℕ) → get_or c 2 0 ≡ get_or b 2 0 → grid c (pairs_at + 144 * k) 12 (participants_in c) (participants_in c) ≡ grid b (pairs_at + 144 * k) 12 (participants_in b) (participants_in b)
+    plan-same : (draw : List ℕ) → get_or c runs_at 0 ≡ get_or b runs_at 0 → grid c (mark_square pairs_at k) most_participants (participants_in c) (participants_in c) ≡ grid b (mark_square pairs_at k) most_participants (participants_in b) (participants_in b)
         → positions_in c k ≡ positions_in b k → plan_in c draw k ≡ plan_in b draw k
     unfolding plan_in
     plan-same draw r g p =
         ap₂ (λ (x : ℕ) (z : List (List ℕ)). plan x z draw (map plus (positions_in c k)) (map minus (positions_in c k))) r g
-        ∙ ap (λ (x : List ℕ). plan (get_or b 2 0) (grid b (pairs_at + 144 * k) 12 (participants_in b) (participants_in b)) draw (map plus x) (map minus x)) p
+        ∙ ap (λ (x : List ℕ). plan (get_or b runs_at 0) (grid b (mark_square pairs_at k) most_participants (participants_in b) (participants_in b)) draw (map plus x) (map minus x)) p
 
     pub plan-kept : (draw : List ℕ) → plan_in c draw k ≡ basket_plan (view b) draw k
     plan-kept draw =
         let e : length c ≡ length b = w.size ∙ sym s.readable.size in
         let n : ℕ = participants_in b in
         let positions : positions_in c k ≡ positions_in b k =
-        ap (block c (positions_at + 12 * k)) participants-kept ∙ blocks-agree c b (positions_at + 12 * k) n e (λ p l. position-kept p l) in
-        plan-same draw (low-kept 2 (omega arith))
-        (ap (λ (q : ℕ). grid c (pairs_at + 144 * k) 12 q q) participants-kept
-        ∙ grid-agree c b (pairs_at + 144 * k) 12 n n (λ p l. blocks-agree c b (pairs_at + 144 * k + 12 * p) n e (λ i m. low-kept (pairs_at + 144 * k + 12 * p + i) (omega (arith, s.sizes.few)))))
+        ap (block c (position_row k)) participants-kept ∙ blocks-agree c b (position_row k) n e (λ p l. position-kept p l) in
+        plan-same draw (low-kept runs_at (omega arith))
+        (ap (λ (q : ℕ). grid c (mark_square pairs_at k) most_participants q q) participants-kept
+        ∙ grid-agree c b (mark_square pairs_at k) most_participants n n (λ p l. blocks-agree c b (mark_square pairs_at k + most_participants * p) n e (λ i m. low-kept (mark_square pairs_at k + most_participants * p + i) (omega (arith, s.sizes.few)))))
         positions
         ∙ plan-read b draw k basket
 

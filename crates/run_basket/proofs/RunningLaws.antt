@@ -2,7 +2,7 @@
 use mathlib.Core.Path.{◌≡◌, refl, sym, ap, ap₂, ◌∙◌, subst}
 use mathlib.Core.Logic.{◌≢◌}
 use mathlib.Core.Bool.{Bool, true, false, ◌&&◌}
-use mathlib.Core.List.{List, [], ◌∷◌, ◌++◌}
+use mathlib.Core.List.{List, [], ◌∷◌, ◌++◌, map}
 use Prim.Native.Nat.{ℕ, ◌+◌, ◌-◌, ◌*◌, ◌≤◌, ◌<◌}
 use native.Mathlib.Decide.{ℕ_discrete}
 use native.Mathlib.Omega.{arith}
@@ -18,11 +18,12 @@ use Rattle.lists.specs.Parts.{over}
 use Rattle.lists.proofs.TestLaws.{go}
 use Rattle.lists.proofs.TableLaws.{length-table, get_or-table}
 use Rattle.lists.proofs.PartLaws.{length_over}
+use Rattle.rule.specs.Day.{terms_of}
 use Rattle.rule.specs.Value.{Terms}
 use Rattle.rule.specs.Filling.{Filled, all_lots}
 use Rattle.rule.specs.Allocable.{allocable}
 use Rattle.rule.specs.Run.{Allocation, used, allocate, lots_from, match_entry, line_list, lines_of, lines_from}
-use Rattle.rule.specs.Layout.{receipts_at, notices_at, view}
+use Rattle.rule.specs.Layout.{receipts_at, notices_at, view, lots_cell, row_cell, runs_at}
 use Rattle.rule.proofs.RunLaws.{Runnable, Allocated, matched-from, few-allocations}
 use Rattle.rule.proofs.RunLots.{used-most, lots-from-most}
 use Rattle.rule.proofs.RunLists.{few_lines}
@@ -34,7 +35,7 @@ use Rattle.filling.proofs.MatchLaws.{allocable_most}
 use Rattle.issue_order.specs.Ordered.{order_key}
 use Rattle.issue_order.proofs.OrderLaws.{ordered-moved}
 use Rattle.arrayvec.specs.ArrayVec.{ArrayVec}
-use Rattle.run_usable.specs.Stock.{terms_in, allocable_in, inside_of, usable_of}
+use Rattle.run_usable.specs.Stock.{marks_in, allocable_in, inside_of, usable_of}
 use Rattle.run_post.specs.Listed.{entry_of, lines_for}
 use Rattle.run_post.specs.Booked.{YenMoved, LotsMoved}
 use Rattle.run_order.specs.Sizes.{participants_in, issues_in}
@@ -46,7 +47,7 @@ use Rattle.run_post.specs.declared.listing.Lists.{Lists}
 use Rattle.run_basket.specs.Running.{done_at, Start, Running, Stocked, Planning}
 use Rattle.run_basket.proofs.DoneLaws.{next_of, Part, part-total, part_length}
 use Rattle.run_basket.proofs.BookedLaws.{booked-more, more_yes, more_no}
-use Rattle.run_basket.proofs.ReadLaws.{notices-read, allocable-read, sized-kept, issues-kept, terms-kept, notices-kept}
+use Rattle.run_basket.proofs.ReadLaws.{notices-read, allocable-read, sized-kept, issues-kept, rows-kept, notices-kept}
 use Rattle.run_basket.proofs.NextLaws.{runnable, next, next-is, next-part, next-allocated, next-deliverer, next-receiver, next-amount, deliverer-of-day, receiver-of-day, next-filled}
 use Rattle.run_post.proofs.ListingLaws.{cells-for}
 use Rattle.run_basket.proofs.ListedLaws.{lines-append, lines_more, entry-is, all-lots, all-size, lines_are, entries-more, rows_more}
@@ -124,7 +125,7 @@ module _ (b draw m₀ l₀ : List ℕ) (S : Start b draw m₀ l₀) (B : Basket)
         S.book.day.owed a.basket a.match.deliverer z.basket z.deliverer,
       )
 
-  lots-notified : (i : ℕ) → i < m → get_or b (notices_at + 32 * d + i) 0 ≤ 200_000_000
+  lots-notified : (i : ℕ) → i < m → get_or b (lots_cell notices_at d i) 0 ≤ 200_000_000
   unfolding view
   lots-notified i q = omega (arith, notices-read b d i deliverer q, S.book.day.notices d i deliverer q)
 
@@ -133,7 +134,7 @@ module _ (b draw m₀ l₀ : List ℕ) (S : Start b draw m₀ l₀) (B : Basket)
   allocable-few i q =
       omega (
         arith,
-        allocable_most (get_or b 2 0) (terms_in b i) (get_or b (notices_at + 32 * d + i) 0) (get_or b (receipts_at + 32 * d + i) 0),
+        allocable_most (get_or b runs_at 0) (marks_in b i) (get_or b (lots_cell notices_at d i) 0) (get_or b (lots_cell receipts_at d i) 0),
         lots-notified i q,
       )
 
@@ -210,7 +211,7 @@ module _ (b draw m₀ l₀ : List ℕ) (S : Start b draw m₀ l₀) (B : Basket)
     issues-same = issues-kept b S.book done c R.booked
 
     notice-same : (p i : ℕ) → p < 12 → i < m → notified_in c p i ≡ notified_in b p i
-    notice-same p i y x = notices-kept b S.book done c R.booked (notices_at + 32 * p + i) (omega arith) (omega (arith, S.book.sizes.most))
+    notice-same p i y x = notices-kept b S.book done c R.booked (lots_cell notices_at p i) (omega arith) (omega (arith, S.book.sizes.most))
 
     deliverer-few : d < 12
     deliverer-few = omega (arith, deliverer, S.book.sizes.few)
@@ -218,7 +219,7 @@ module _ (b draw m₀ l₀ : List ℕ) (S : Start b draw m₀ l₀) (B : Basket)
     quotes-same : QuotesOf c B.stock
     quotes-same = record {
       there = omega (arith, issues-same, T.quotes.there);
-      quoted = subst (λ (ts : List Terms). Quotes ts B.stock.quotes.now) (sym (terms-kept b S.book done c R.booked)) T.quotes.quoted;
+      quoted = subst (λ (ts : List Terms). Quotes ts B.stock.quotes.now) (sym (ap (map terms_of) (rows-kept b S.book done c R.booked))) T.quotes.quoted;
     }
 
     pub usable-asks : (places : ℕ) → places ≡ issues_in c → UsableAsked c B e used' places
@@ -251,7 +252,7 @@ module _ (b draw m₀ l₀ : List ℕ) (S : Start b draw m₀ l₀) (B : Basket)
       -- an order of the book as it was is one of the book as it is
       order-now : (order : List ℕ) → OrderedAt b before e (may_use B used' d) order → OrderedAt c before e (λ i. get_or usable' i 0) order
       order-now order o =
-          ordered-moved (sym issues-same) (λ i x. ap (λ (v : ℕ). order_key pref v (get_or before (32 * d + i) 0)) (sym (notice-same d i deliverer-few x)))
+          ordered-moved (sym issues-same) (λ i x. ap (λ (v : ℕ). order_key pref v (get_or before (row_cell d i) 0)) (sym (notice-same d i deliverer-few x)))
           (λ i x. omega (arith, usable_at i (omega (arith, issues-same)))) o
 
       pub order-asks : (last : Option Entry) (orders : List (ArrayVec ℕ)) (order : List ℕ) → Orders b orders → (0 < length order → Same last e → OrderedAt b before e (may_use B used' d) order)
@@ -296,7 +297,7 @@ module _ (b draw m₀ l₀ : List ℕ) (S : Start b draw m₀ l₀) (B : Basket)
         lines-is : lines_for t.counts.matches (lots_with f lots) ≡ lines_of t.counts.matches a
         lines-is = lines_are t.counts.matches (lots_with f lots) a (all-size a.filled f lots F forced) all_is
 
-        used-at : (i : ℕ) → i < m → get_or used' (32 * d + i) 0 ≡ used done d i
+        used-at : (i : ℕ) → i < m → get_or used' (row_cell d i) 0 ≡ used done d i
         used-at i x = R.gone d i deliverer x
 
         lines_fit : 3 * length (line_list done) + 3 * length (lines_of (length done) a) ≤ 7392
@@ -341,15 +342,15 @@ module _ (b draw m₀ l₀ : List ℕ) (S : Start b draw m₀ l₀) (B : Basket)
           unfolding next_of allocate match_entry
           entry = entry-is a.filled f lots F k d r e.amount.0
 
-          gone : (p i : ℕ) → p < participants_in b → i < m → get_or used'' (32 * p + i) 0 ≡ used (done ++ (a ∷ [])) p i
+          gone : (p i : ℕ) → p < participants_in b → i < m → get_or used'' (row_cell p i) 0 ≡ used (done ++ (a ∷ [])) p i
           gone p i x v = cases (ℕ_discrete d p)
             where
-              cases : Dec (d ≡ p) → get_or used'' (32 * p + i) 0 ≡ used (done ++ (a ∷ [])) p i
+              cases : Dec (d ≡ p) → get_or used'' (row_cell p i) 0 ≡ used (done ++ (a ∷ [])) p i
               cases (yes e) =
-                  subst (λ (o : ℕ). get_or used'' (32 * o + i) 0 ≡ used (done ++ (a ∷ [])) o i) e
+                  subst (λ (o : ℕ). get_or used'' (row_cell o i) 0 ≡ used (done ++ (a ∷ [])) o i) e
                   (W.gone.more i (omega (arith, row-size)) ∙ ap₂ (λ (o w : ℕ). o + w) (used-at i v) (ap (λ (v : List ℕ). get_or v i 0) F.lots_are) ∙ sym (used-more i))
               cases (no e) =
-                  W.gone.kept (32 * p + i) (λ o w s. e (omega (arith, row-size, S.book.sizes.most))) ∙ R.gone p i x v ∙ sym (used-else p i e)
+                  W.gone.kept (row_cell p i) (λ o w s. e (omega (arith, row-size, S.book.sizes.most))) ∙ R.gone p i x v ∙ sym (used-else p i e)
 
           -- less may be used than before, so that the order is still right
           less-usable : (i : ℕ) → i < m → may_use B used'' d i ≤ get_or usable' i 0
@@ -357,12 +358,12 @@ module _ (b draw m₀ l₀ : List ℕ) (S : Start b draw m₀ l₀) (B : Basket)
               omega (
                 arith,
                 usable_at usable' all U i (omega (arith, issues-same)),
-                usable-falls (get_or B.inside.now i false) (get_or B.stock.allocable.now (32 * d + i) 0) (get_or used' (32 * d + i) 0) (get_or used'' (32 * d + i) 0) (omega (arith, W.gone.more i (omega (arith, row-size)))),
+                usable-falls (get_or B.inside.now i false) (get_or B.stock.allocable.now (row_cell d i) 0) (get_or used' (row_cell d i) 0) (get_or used'' (row_cell d i) 0) (omega (arith, W.gone.more i (omega (arith, row-size)))),
               )
 
           pub order-next : 0 < length order → OrderedAt b before e (may_use B used'' d) order
           order-next x =
-              ordered-moved issues-same (λ i v. ap (λ (w : ℕ). order_key pref w (get_or before (32 * d + i) 0)) (notice-same d i deliverer-few (omega (arith, issues-same))))
+              ordered-moved issues-same (λ i v. ap (λ (w : ℕ). order_key pref w (get_or before (row_cell d i) 0)) (notice-same d i deliverer-few (omega (arith, issues-same))))
               (λ i v. less-usable i (omega (arith, issues-same))) (O.listed x)
 
           pub running_more : Running b m₀ l₀ (done_at (view b) draw k (j + 1)) c' used'' t'

@@ -5,11 +5,11 @@ use Rattle.arrayvec.specs.ArrayVec.{ArrayVec}
 use Rattle.lists.specs.Tables.{up_to, table, cell}
 use Rattle.lists.specs.Folds.{foldl, joined}
 use Rattle.lists.specs.Parts.{over}
-use Rattle.rule.specs.Day.{Day, mark}
+use Rattle.rule.specs.Day.{baskets, Day, mark}
 use Rattle.rule.specs.Run.{Allocation, used, used_table, allocate, basket_plan, basket, covered_from, covered_to, covered_pair, lots_from, lots_to, match_list, line_list}
 use Rattle.rule.specs.Entries.{match_size, line_size}
 use Rattle.rule.specs.Calls.{most_matches, most_lines}
-use Rattle.rule.specs.Layout.{book_length, view, signed, position_cell, lots_cell, tally_at, mark_cell, today_at}
+use Rattle.rule.specs.Layout.{book_length, view, signed, position_cell, lots_cell, tally_at, mark_cell, today_at, lots_size, row_cell}
 use Rattle.rule.proofs.BookLaws.{SoundBook}
 use Rattle.rule.proofs.DrawLaws.{EachOnce}
 use Rattle.matching.specs.Plans.{match_of}
@@ -39,8 +39,8 @@ done_at y draw k j = done_to y draw k ++ done_in y draw k j
 
 -- a place that no match changes
 pub record Elsewhere (b : List ℕ) (j : ℕ) : Type 0 where
-  pub positions : (k p : ℕ) → k < 7 → p < participants_in b → j ≢ position_cell k p
-  pub marks : (k d r : ℕ) → k < 7 → d < participants_in b → r < participants_in b → j ≢ mark_cell today_at k d r
+  pub positions : (k p : ℕ) → k < baskets → p < participants_in b → j ≢ position_cell k p
+  pub marks : (k d r : ℕ) → k < baskets → d < participants_in b → r < participants_in b → j ≢ mark_cell today_at k d r
   pub tally : (p i : ℕ) → p < participants_in b → i < issues_in b → j ≢ lots_cell tally_at p i
 
 -- lots delivered and received, those of the day so far and of the matches
@@ -53,9 +53,9 @@ back_to b done p i = cell (view b).state.received p i + lots_to done p i
 -- the book b after the matches of done were booked is c
 pub record BookedTo (b : List ℕ) (done : List Allocation) (c : List ℕ) : Type 0 where
   pub size : length c ≡ book_length
-  pub positions : (k p : ℕ) → k < 7 → p < participants_in b
+  pub positions : (k p : ℕ) → k < baskets → p < participants_in b
       → get_or c (position_cell k p) 0 ≡ signed (cell (view b).state.owed k p - covered_from done k p) (cell (view b).state.due k p - covered_to done k p)
-  pub marks : (k d r : ℕ) → k < 7 → d < participants_in b → r < participants_in b
+  pub marks : (k d r : ℕ) → k < baskets → d < participants_in b → r < participants_in b
       → get_or c (mark_cell today_at k d r) 0 ≡ pick (ltb 0 (covered_pair done k d r)) 1 (mark (view b).state.today k d r)
   pub tally : (p i : ℕ) → p < participants_in b → i < issues_in b
       → get_or c (lots_cell tally_at p i) 0 ≡ signed (out_of b done p i - back_to b done p i) (back_to b done p i - out_of b done p i)
@@ -74,8 +74,8 @@ pub record Start (b draw matches lines : List ℕ) : Type 0 where
 -- from book b₀ and lists m₀ and l₀, after the matches of done: the book, the lots used, and the lists with their counts
 pub record Running (b₀ m₀ l₀ : List ℕ) (done : List Allocation) (b used' : List ℕ) (t : Lists) : Type 0 where
   pub booked : BookedTo b₀ done b
-  pub places : length used' ≡ 384
-  pub gone : (d i : ℕ) → d < participants_in b₀ → i < issues_in b₀ → get_or used' (32 * d + i) 0 ≡ used done d i
+  pub places : length used' ≡ lots_size
+  pub gone : (d i : ℕ) → d < participants_in b₀ → i < issues_in b₀ → get_or used' (row_cell d i) 0 ≡ used done d i
   pub match_size : length t.matches.now ≡ length m₀
   pub entries : t.matches.now ≡ over m₀ 0 (joined (match_list done))
   pub line_size : length t.lines.now ≡ length l₀
@@ -97,7 +97,7 @@ pub record Stocked (b : List ℕ) (s : Stock) : Type 0 where
 
 pub record Begun (b₀ draw m₀ l₀ : List ℕ) (k : ℕ) (b : List ℕ) (s : Stock) (orders : List (ArrayVec ℕ)) (used' : List ℕ) (t : Lists) : Type 0 where
   pub start : Start b₀ draw m₀ l₀
-  pub basket : k < 7
+  pub basket : k < baskets
   pub stocked : Stocked b₀ s
   pub running : Running b₀ m₀ l₀ (done_to (view b₀) draw k) b used' t
   pub kept : Orders b₀ orders
@@ -113,8 +113,8 @@ pub record BasketAsks (k : ℕ) (b draw : List ℕ) (s : Stock) (orders : List (
 pub record Planning (b₀ draw : List ℕ) (B : Basket) (made : List Entry) : Type 0 where
   pub planned : map match_of made ≡ basket_plan (view b₀) draw B.number
   pub inside_is : B.inside.now ≡ table (issues_in b₀) (inside_of b₀ B.number)
-  pub earlier : length B.before.now ≡ 384
-  pub before_at : (d i : ℕ) → d < participants_in b₀ → i < issues_in b₀ → get_or B.before.now (32 * d + i) 0 ≡ used (done_to (view b₀) draw B.number) d i
+  pub earlier : length B.before.now ≡ lots_size
+  pub before_at : (d i : ℕ) → d < participants_in b₀ → i < issues_in b₀ → get_or B.before.now (row_cell d i) 0 ≡ used (done_to (view b₀) draw B.number) d i
 
 pub record AllocateAsks (B : Basket) (b : List ℕ) (made : List Entry) (orders : List (ArrayVec ℕ)) (used' : List ℕ) (t : Lists) : Type 0 where
   pub b₀ : List ℕ

@@ -27,12 +27,12 @@ fn allocate(
     ensures same { SameLists lists.old lists.new }
 {
     let issues = book[layout::ISSUES] as usize;
-    let mut cells = [0u64; 32];
+    let mut cells = [0u64; layout::MOST_ISSUES];
     let usable = &mut cells[..issues];
     let mut order = Order::new();
     let mut last = None;
     for m in plan {
-        let mut places = [0u64; 32];
+        let mut places = [0u64; layout::MOST_ISSUES];
         let lots = &mut places[..issues];
         let all = basket.usable_lots(&*book, *m, &*used, &mut *usable);
         run_order::order_for(
@@ -68,7 +68,7 @@ pub fn run_basket(
     stock: Stock,
     orders: &mut [Order],
     used: &mut [u64],
-    before: &mut [u64; 384],
+    before: &mut [u64; layout::LOTS],
     lists: &mut Lists,
 )
     requires { BasketAsks number book.old draw.now stock orders.old used.old lists.old }
@@ -79,7 +79,7 @@ pub fn run_basket(
     let issues = book[layout::ISSUES] as usize;
     let mut plan = Plan::new();
     run_match::plan_basket(&*book, number, draw, &mut plan);
-    let mut marks = [false; 32];
+    let mut marks = [false; layout::MOST_ISSUES];
     let inside = &mut marks[..issues];
     run_usable::mark_issues(&*book, number as u64, &mut *inside);
     before.copy_from_slice(used);

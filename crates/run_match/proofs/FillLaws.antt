@@ -1,20 +1,19 @@
 -- Laws of what a match may use, and of filling it. Assumes nothing.
 use mathlib.Core.Path.{◌≡◌, sym, ap, ap₂, ◌∙◌, subst}
 use mathlib.Core.Bool.{Bool, false}
-use mathlib.Core.List.{List}
+use mathlib.Core.List.{List, map}
 use Prim.Native.Nat.{ℕ, ◌+◌, ◌-◌, ◌*◌, ◌≤◌, ◌<◌}
 use native.Mathlib.Omega.{arith}
-use lib.ListN.{length, get_or, take, drop}
+use lib.ListN.{length, get_or, length-map}
 use lib.Seq.{take_all}
 use Rattle.lists.specs.Tables.{table}
 use Rattle.lists.specs.Parts.{block}
-use Rattle.lists.proofs.TableLaws.{get_or-table}
+use Rattle.lists.proofs.TableLaws.{length-table, get_or-table}
 use Rattle.lists.proofs.PartLaws.{block-get, length-block, part-is, part_length, table-agree}
+use Rattle.rule.specs.Day.{terms_of, marks_of}
 use Rattle.rule.specs.Filling.{Filled, filled, forced_issue}
-use Rattle.rule.specs.Layout.{terms_at, notices_at}
-use Rattle.value.proofs.TermLaws.{terms-length}
+use Rattle.rule.specs.Layout.{runs_at, notices_at, row_start, lots_row}
 use Rattle.filling.specs.Match.{FilledAs}
-use Rattle.value.specs.Quotes.{terms_in}
 use Rattle.filling.specs.declared.Filling.{Filling}
 use Rattle.matching.specs.declared.Match.{Match as Entry}
 use Rattle.run_usable.specs.Stock.{usable_of, may_use as row_may_use, Usable as RowUsable, Usables}
@@ -22,7 +21,7 @@ use Rattle.run_usable.specs.declared.Stock.{Stock}
 use Rattle.run_usable.proofs.StockLaws.{usable_most}
 use Rattle.run_order.specs.Sizes.{issues_in}
 use Rattle.run_match.specs.declared.Basket.{Basket}
-use Rattle.run_match.specs.Filled.{book_terms, may_use, usable_in, UsableAsked, UsableLots, Fillable, filled_in}
+use Rattle.run_match.specs.Filled.{issue_rows, book_terms, book_marks, may_use, usable_in, UsableAsked, UsableLots, filled_in}
 
 -- ---- what may be used
 
@@ -31,85 +30,63 @@ module _ {b : List ℕ} {B : Basket} {e : Entry} {used : List ℕ} {places : ℕ
   m = issues_in b
 
   abbrev at : ℕ
-  at = 32 * e.deliverer
+  at = row_start e.deliverer
 
   abbrev inside : List Bool
   inside = B.inside.now
 
-  abbrev allocable : List ℕ
-  allocable = B.stock.allocable.now
+  module _ {allocable gone : List ℕ} (a : allocable ≡ block B.stock.allocable.now at m) (g : gone ≡ block used at m) where
+    allocable-at : (i : ℕ) → i < m → get_or allocable i 0 ≡ get_or B.stock.allocable.now (at + i) 0
+    allocable-at i l = ap (λ (p : List ℕ). get_or p i 0) a ∙ block-get B.stock.allocable.now at m i l
 
-  pub stock-fits : at + m ≤ length allocable
-  stock-fits = omega (arith, h.stock, h.deliverer, h.sized.issues)
+    gone-at : (i : ℕ) → i < m → get_or gone i 0 ≡ get_or used (at + i) 0
+    gone-at i l = ap (λ (p : List ℕ). get_or p i 0) g ∙ block-get used at m i l
 
-  pub gone-fits : at + m ≤ length used
-  gone-fits = omega (arith, h.gone, h.deliverer, h.sized.issues)
+    pub usable-asks : RowUsable inside allocable gone B.stock.quotes.now places
+    usable-asks = rw h.row (record {
+      few = h.sized.issues;
+      marked = h.marked;
+      stock = omega (arith, ap length a, length-block B.stock.allocable.now at m (omega (arith, h.stock, h.deliverer, h.sized.issues)));
+      gone = omega (arith, ap length g, length-block used at m (omega (arith, h.gone, h.deliverer, h.sized.issues)));
+      quotes_there = h.quotes.there;
+      allocable_most = λ i l. omega (arith, allocable-at i l, h.allocable_most i l);
+      enough = λ i l x. omega (arith, gone-at i l, allocable-at i l, h.enough i l x);
+    })
 
-  lent : (xs : List ℕ) (i : ℕ) → i < m → get_or (take (at + m - at) (drop at xs)) i 0 ≡ get_or xs (at + i) 0
-  lent xs i l = ap (λ (p : List ℕ). get_or p i 0) (part-is xs at m) ∙ block-get xs at m i l
+    module _ {usable : List ℕ} {all : ℕ} (w : Usables inside allocable gone B.stock.quotes.now places usable all) where
+      abbrev f : ℕ → ℕ
+      f i = may_use B used e.deliverer i
 
-  pub usable-asks : RowUsable inside (take (at + m - at) (drop at allocable)) (take (at + m - at) (drop at used)) B.stock.quotes.now places
-  usable-asks = rw h.row (record {
-    few = h.sized.issues;
-    marked = h.marked;
-    stock = omega (arith, part_length allocable at m stock-fits);
-    gone = omega (arith, part_length used at m gone-fits);
-    quotes_there = h.quotes.there;
-    allocable_most = λ i l. omega (arith, lent allocable i l, h.allocable_most i l);
-    enough = λ i l e. omega (arith, lent used i l, lent allocable i l, h.enough i l e);
-  })
+      row_is : usable ≡ usable_in b B used e.deliverer
+      row_is =
+          w.row_is ∙ ap (λ (n : ℕ). table n (row_may_use inside allocable gone)) h.row
+          ∙ table-agree m (row_may_use inside allocable gone) f (λ i l. ap₂ (usable_of (get_or inside i false)) (allocable-at i l) (gone-at i l))
 
-  module _ {usable : List ℕ} {all : ℕ} (w : Usables inside (take (at + m - at) (drop at allocable)) (take (at + m - at) (drop at used)) B.stock.quotes.now places usable all) where
-    abbrev f : ℕ → ℕ
-    f i = may_use B used e.deliverer i
+      most : (i : ℕ) → i < m → get_or usable i 0 ≤ 200_000_000
+      most i l =
+          omega (
+            arith,
+            ap (λ (r : List ℕ). get_or r i 0) row_is,
+            get_or-table m f i 0 l,
+            usable_most (get_or inside i false) (get_or B.stock.allocable.now (at + i) 0) (get_or used (at + i) 0) 200_000_000 (h.allocable_most i l),
+          )
 
-    abbrev g : ℕ → ℕ
-    g i = row_may_use inside (take (at + m - at) (drop at allocable)) (take (at + m - at) (drop at used)) i
-
-    row_is : usable ≡ usable_in b B used e.deliverer
-    row_is =
-        w.row_is ∙ ap (λ (n : ℕ). table n g) h.row
-        ∙ table-agree m g f (λ i l. ap₂ (usable_of (get_or inside i false)) (lent allocable i l) (lent used i l))
-
-    most : (i : ℕ) → i < m → get_or usable i 0 ≤ 200_000_000
-    most i l =
-        omega (
-          arith,
-          ap (λ (r : List ℕ). get_or r i 0) row_is,
-          get_or-table m f i 0 l,
-          usable_most (get_or inside i false) (get_or allocable (at + i) 0) (get_or used (at + i) 0) 200_000_000 (h.allocable_most i l),
-        )
-
-    pub usable-are : UsableLots b B e used usable all
-    usable-are = record {
-      row = row_is;
-      most = most;
-      worth_is = w.worth_is (book_terms b) (terms-length m (block b terms_at 192) ∙ sym h.row) h.quotes.quoted;
-    }
+      pub usable-are : UsableLots b B e used usable all
+      usable-are = record {
+        row = row_is;
+        most = most;
+        worth_is = w.worth_is (book_terms b) (length-map (issue_rows b) terms_of ∙ length-table m _ ∙ sym h.row) h.quotes.quoted;
+      }
 
 -- ---- filling
 
-module _ {b : List ℕ} {s : Stock} {e : Entry} {usable : List ℕ} {all : ℕ} {order lots : List ℕ} (h : Fillable b s e usable all order lots) where
-  abbrev n : ℕ
-  n = issues_in b
-
-  abbrev from : ℕ
-  from = notices_at + 32 * e.deliverer
-
-  -- the deliverer's notified lots
-  notified-are : take (length usable) (take (from + n - from) (drop from b)) ≡ block b from n
-  notified-are =
-      let size : length (block b from n) ≡ n = length-block b from n (omega (arith, h.sized.cells, h.sized.issues, h.deliverer)) in
-      ap₂ (λ (q : ℕ) (l : List ℕ). take q l) h.wide (part-is b from n) ∙ take_all n (block b from n) (omega (arith, size))
-
-  pub fill_is : (k : ℕ) {listed : List ℕ} {f : Filling} {lots' : List ℕ} → listed ≡ order
-      → FilledAs (filled (get_or b 2 0) e.preferential (terms_in (length usable) (block b terms_at 192)) usable listed
-      (forced_issue k (terms_in (length usable) (block b terms_at 192)) (take (length usable) (take (from + n - from) (drop from b)))) e.amount.0) f lots'
-      → FilledAs (filled_in b k e usable order) f lots'
-  unfolding filled_in
-  fill_is k {listed} {f} {lots'} o q =
-      subst (λ (x : Filled). FilledAs x f lots')
-      (ap₂ (λ (i : ℕ) (l : List ℕ). filled (get_or b 2 0) e.preferential (terms_in i (block b terms_at 192)) usable listed (forced_issue k (terms_in i (block b terms_at 192)) l) e.amount.0)
-      h.wide notified-are
-      ∙ ap (λ (l : List ℕ). filled (get_or b 2 0) e.preferential (book_terms b) usable l (forced_issue k (book_terms b) (block b from n)) e.amount.0) o)
-      q
+pub fill_is : (b : List ℕ) (e : Entry) (usable : List ℕ) {order : List ℕ} (k : ℕ) {listed notified : List ℕ} {issues : List (List ℕ)} {f : Filling} {lots' : List ℕ}
+    → listed ≡ order → issues ≡ issue_rows b → notified ≡ block b (lots_row notices_at e.deliverer) (issues_in b)
+    → FilledAs (filled (get_or b runs_at 0) e.preferential (map terms_of issues) usable listed (forced_issue k (map terms_of issues) (map marks_of issues) notified) e.amount.0) f lots'
+    → FilledAs (filled_in b k e usable order) f lots'
+unfolding filled_in
+fill_is b e usable {order} k {listed} {notified} {f = r} {lots'} o i n q =
+    subst (λ (x : Filled). FilledAs x r lots')
+    (ap₂ (λ (l : List ℕ) (r : List (List ℕ)). filled (get_or b runs_at 0) e.preferential (map terms_of r) usable l (forced_issue k (map terms_of r) (map marks_of r) notified) e.amount.0) o i
+    ∙ ap (λ (r : List ℕ). filled (get_or b runs_at 0) e.preferential (book_terms b) usable order (forced_issue k (book_terms b) (book_marks b) r) e.amount.0) n)
+    q

@@ -6,9 +6,9 @@ use native.Mathlib.Omega.{arith}
 use lib.ListN.{length, get_or, take, drop, length-map}
 use Rattle.lists.specs.Parts.{block, grid}
 use Rattle.lists.proofs.PartLaws.{length-block, part-is, part_length}
-use Rattle.lists.proofs.RowLaws.{made-block}
+use Rattle.lists.proofs.CutLaws.{grid-within}
 use Rattle.rule.specs.Matching.{plan}
-use Rattle.rule.specs.Layout.{pairs_at, positions_at, plus, minus}
+use Rattle.rule.specs.Layout.{most_participants, square, runs_at, pairs_at, position_row, mark_square, plus, minus}
 use Rattle.arrayvec.specs.ArrayVec.{ArrayVec}
 use Rattle.matching.specs.declared.Match.{Match as Entry}
 use Rattle.matching.specs.Plans.{Basket, Planned, pair_marks}
@@ -17,52 +17,42 @@ use Rattle.run_order.specs.Sizes.{participants_in}
 use Rattle.run_match.specs.Filled.{positions_in, plan_in, PlanRows}
 
 module _ (b draw : List ℕ) (k : ℕ) (owed due : List ℕ) (h : PlanRows b draw k owed due) where
-  abbrev at : ℕ
-  at = positions_at + 12 * k
-
-  abbrev pairs : ℕ
-  pairs = pairs_at + 144 * k
-
   abbrev n : ℕ
   n = participants_in b
 
-  pub positions-fit : at + n ≤ length b
+  positions-fit : position_row k + n ≤ length b
   positions-fit = omega (arith, h.plannable.sized.cells, h.plannable.sized.participants, h.plannable.basket)
 
-  -- a participants' row that was made of the positions, cell by cell
-  pub taken : (g : ℕ → ℕ) (row part : List ℕ) → length row ≡ n → length part ≡ length row
-      → ((i : ℕ) → i < length (take (at + length owed - at) (drop at b)) → get_or part i 0 ≡ g (get_or (take (at + length owed - at) (drop at b)) i 0))
-      → part ≡ map g (block b at (length row))
-  taken g row part e l each = made-block g b at (length owed) (length row) part (omega (arith, positions-fit, h.owing)) (e ∙ sym h.owing) l each
+  pairs-fit : mark_square pairs_at k + square ≤ length b
+  pairs-fit = omega (arith, h.plannable.sized.cells, h.plannable.basket)
 
-  pairs_fit : pairs + 144 ≤ length b
-  pairs_fit = omega (arith, h.plannable.sized.cells, h.plannable.basket)
+  -- the participants' rows are made of the positions, cell by cell
+  module _ {positions pairs : List ℕ} (there : positions ≡ block b (position_row k) (length owed)) (marks : pairs ≡ block b (mark_square pairs_at k) square)
+      {owed' due' : List ℕ} (w : owed' ≡ map plus positions) (v : due' ≡ map minus positions) where
+    positions-are : positions ≡ positions_in b k
+    positions-are = there ∙ ap (block b (position_row k)) h.owing
 
-  marks : List ℕ
-  marks = take (pairs + 144 - pairs) (drop pairs b)
-
-  module _ {owed' due' : List ℕ} (w : owed' ≡ map plus (block b at (length owed))) (v : due' ≡ map minus (block b at (length due))) where
     owed-is : owed' ≡ map plus (positions_in b k)
-    owed-is = w ∙ ap (λ (m : ℕ). map plus (block b at m)) h.owing
+    owed-is = w ∙ ap (map plus) positions-are
 
     due-is : due' ≡ map minus (positions_in b k)
-    due-is = v ∙ ap (λ (m : ℕ). map minus (block b at m)) h.owned
+    due-is = v ∙ ap (map minus) positions-are
 
-    pub plan-asks : Basket (take (pairs + 144 - pairs) (drop pairs b)) draw owed' due'
+    pub plan-asks : Basket pairs draw owed' due'
     plan-asks =
         rw (owed-is, due-is)
-        (sound-basket n _ draw (positions_in b k) (length-block b at n positions-fit) h.plannable.sized.participants
-        (omega (arith, part_length b pairs 144 pairs_fit, h.plannable.sized.participants)) h.plannable.drawn)
+        (sound-basket n _ draw (positions_in b k) (length-block b (position_row k) n positions-fit) h.plannable.sized.participants
+        (omega (arith, ap length marks, length-block b (mark_square pairs_at k) square pairs-fit, h.plannable.sized.participants)) h.plannable.drawn)
 
-    pub plan-is : {runs : ℕ} {made' : ArrayVec Entry} → runs ≡ get_or b 2 0
-        → Planned (plan runs (pair_marks (take (pairs + 144 - pairs) (drop pairs b)) (length owed')) draw owed' due') made'
+    pub plan-is : {runs : ℕ} {made' : ArrayVec Entry} → runs ≡ get_or b runs_at 0 → Planned (plan runs (pair_marks pairs (length owed')) draw owed' due') made'
         → Planned (plan_in b draw k) made'
     unfolding plan_in
     plan-is {runs} {made'} e p =
-        let o : length owed' ≡ n = ap length owed-is ∙ length-map (positions_in b k) plus ∙ length-block b at n positions-fit in
-        let m : pair_marks (take (pairs + 144 - pairs) (drop pairs b)) (length owed') ≡ grid b pairs 12 n n =
-        ap₂ (λ (x : List ℕ) (q : ℕ). pair_marks x q) (part-is b pairs 144) o ∙ marks-of-book b pairs n h.plannable.sized.participants pairs_fit in
+        let o : length owed' ≡ n = ap length owed-is ∙ length-map (positions_in b k) plus ∙ length-block b (position_row k) n positions-fit in
+        let m : pair_marks pairs (length owed') ≡ grid b (mark_square pairs_at k) most_participants n n =
+        ap₂ (λ (x : List ℕ) (q : ℕ). pair_marks x q) marks o
+        ∙ grid-within b (mark_square pairs_at k) square most_participants n n (omega (arith, h.plannable.sized.participants)) h.plannable.sized.participants in
         record {
           matches = p.matches ∙ ap₂ (λ (r : ℕ) (x : List (List ℕ)). plan r x draw owed' due') e m
-              ∙ ap₂ (λ (x y : List ℕ). plan (get_or b 2 0) (grid b pairs 12 n n) draw x y) owed-is due-is;
+              ∙ ap₂ (λ (x y : List ℕ). plan (get_or b runs_at 0) (grid b (mark_square pairs_at k) most_participants n n) draw x y) owed-is due-is;
         }

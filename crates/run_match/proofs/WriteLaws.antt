@@ -1,4 +1,6 @@
 -- Laws of writing a match: its lots, with the forced ones, and its entry in the list. Assumes nothing.
+use Rattle.rule.specs.Entries.{match_size}
+use Rattle.rule.specs.Layout.{row_start}
 use Rattle.std.proofs.Common.{◌≡◌, ℕ, ◌+◌, ◌-◌, ◌*◌, ◌<◌, ◌≤◌, List, length, get_or, set, take, drop, sym, ap, ap₂, ◌∙◌, subst, arith, length-set, get_or-set_same, get_or-set_other}
 use native.Mathlib.Decide.{ℕ_discrete}
 use borrow.Rule.Slice.PartMut.{put_mid}
@@ -19,7 +21,7 @@ use Rattle.run_match.specs.Filled.{lots_with, UsedBy, LotsWritable, LotsWritten,
 
 module _ {b used : List ℕ} {s : Lists} {m : Entry} {f : Filling} {lots : List ℕ} (h : LotsWritable b used s m f lots) where
   abbrev row : ℕ
-  row = 32 * m.deliverer
+  row = row_start m.deliverer
 
   abbrev place : ℕ
   place = row + f.forced
@@ -91,8 +93,22 @@ module _ {b used : List ℕ} {s : Lists} {m : Entry} {f : Filling} {lots : List 
             ∙ lent-in With used row width part row-fits used-with i (omega (arith, size-with))
             ∙ ap (λ (x : ℕ). get_or used (row + i) 0 + x) (get_or-set_other lots f.forced i (get_or lots f.forced 0 + further) 0 d)
 
-    pub lots-written : LotsWritten b used s m f lots b' used' t
-    lots-written = record { gone = without-forced; listed = w.listed; moved = w.moved; only = w.only }
+    row-written : LotsWritten b used s m f lots b' used' t
+    row-written = record { gone = without-forced; listed = w.listed; moved = w.moved; only = w.only }
+
+  -- the row as it is lent
+  abbrev lent : ℕ → List ℕ
+  lent at = take (at + width - at) (drop at used)
+
+  abbrev back : List ℕ → ℕ → List ℕ
+  back part at = put_mid at (at + width - at) used part
+
+  pub lots-written : {at : ℕ} → at ≡ row_start m.deliverer → {b' part : List ℕ} {t : Lists} → IssuesWritten b (lent at) s m (lots_with f lots) b' part t
+      → LotsWritten b used s m f lots b' (set (back part at) (at + f.forced) (get_or (back part at) (at + f.forced) 0 - further)) t
+  lots-written start {b'} {part} {t} =
+      subst (λ (at : ℕ). IssuesWritten b (lent at) s m (lots_with f lots) b' part t
+      → LotsWritten b used s m f lots b' (set (back part at) (at + f.forced) (get_or (back part at) (at + f.forced) 0 - further)) t)
+      (sym start) row-written
 
 -- ---- the match after its lots
 
@@ -104,7 +120,7 @@ module _ {b between used : List ℕ} {k : ℕ} {s t : Lists} {m : Entry} {f : Fi
   pub match-written : {u : Lists} → MatchAdded t u k m f → Wrote b k m f lots used s b' used' u
   match-written {u} a = record {
     gone = w.gone;
-    entry = a.entry ∙ ap₂ (λ (cells : List ℕ) (number : ℕ). over cells (7 * number) (entry_of k m.deliverer m.receiver m.amount.0 f)) w.only.matches w.only.match_count;
+    entry = a.entry ∙ ap₂ (λ (cells : List ℕ) (number : ℕ). over cells (match_size * number) (entry_of k m.deliverer m.receiver m.amount.0 f)) w.only.matches w.only.match_count;
     matched = a.matched ∙ ap (λ (number : ℕ). number + 1) w.only.match_count;
     listed = subst (λ (count : ℕ). Listed s.lines.now u.lines.now s.counts.lines s.counts.matches (lots_with f lots) count) (sym a.line_count)
         (subst (λ (cells : List ℕ). Listed s.lines.now cells s.counts.lines s.counts.matches (lots_with f lots) t.counts.lines) (sym a.lines) w.listed);

@@ -3,12 +3,15 @@ use Rattle.std.specs.Prelude.{◌≡◌, ◌≢◌, true, false, List, map, ℕ,
 use Rattle.lists.specs.Tables.{table, zeros}
 use Rattle.lists.specs.Parts.{block, grid, over}
 use Rattle.rule.specs.Value.{Terms}
+use Rattle.rule.specs.Allocable.{Marks}
+use Rattle.rule.specs.Day.{baskets, term_size, terms_of, marks_of}
+use Rattle.rule.specs.Entries.{match_size, line_size}
 use Rattle.rule.specs.Matching.{Match, plan}
 use Rattle.matching.specs.declared.Match.{Match as Entry}
 use Rattle.rule.specs.Filling.{worth, Filled, filled, forced_issue}
-use Rattle.rule.specs.Layout.{book_length, terms_at, pairs_at, positions_at, notices_at, plus, minus}
+use Rattle.rule.specs.Layout.{most_participants, most_issues, lots_size, runs_at, terms_at, pairs_at, notices_at, book_length, row_cell, lots_row, position_row, mark_square, plus, minus}
 use Rattle.rule.proofs.DrawLaws.{EachOnce}
-use Rattle.value.specs.Quotes.{Quotes, terms_in}
+use Rattle.value.specs.Quotes.{Quotes}
 use Rattle.run_order.specs.Sizes.{participants_in, issues_in, Sized}
 use Rattle.filling.specs.Rows.{Named}
 use Rattle.filling.specs.declared.Filling.{Filling}
@@ -23,15 +26,15 @@ use Rattle.run_post.specs.Booked.{YenMoved, LotsMoved}
 
 -- basket k's positions
 abbrev pub positions_in : List ℕ → ℕ → List ℕ
-positions_in b k = block b (positions_at + 12 * k) (participants_in b)
+positions_in b k = block b (position_row k) (participants_in b)
 
 unfoldable pub plan_in : List ℕ → List ℕ → ℕ → List Match
 plan_in b draw k =
-    plan (get_or b 2 0) (grid b (pairs_at + 144 * k) 12 (participants_in b) (participants_in b)) draw (map plus (positions_in b k)) (map minus (positions_in b k))
+    plan (get_or b runs_at 0) (grid b (mark_square pairs_at k) most_participants (participants_in b) (participants_in b)) draw (map plus (positions_in b k)) (map minus (positions_in b k))
 
 pub record Plannable (b draw : List ℕ) (k : ℕ) : Type 0 where
   pub sized : Sized b
-  pub basket : k < 7
+  pub basket : k < baskets
   pub drawn : EachOnce draw (participants_in b)
 
 -- and rows for the participants
@@ -42,12 +45,19 @@ pub record PlanRows (b draw : List ℕ) (k : ℕ) (owed due : List ℕ) : Type 0
 
 -- ---- what may be used
 
+-- the terms and marks of the day's issues
+abbrev pub issue_rows : List ℕ → List (List ℕ)
+issue_rows b = grid b terms_at term_size (issues_in b) term_size
+
 abbrev pub book_terms : List ℕ → List Terms
-book_terms b = terms_in (issues_in b) (block b terms_at 192)
+book_terms b = map terms_of (issue_rows b)
+
+abbrev pub book_marks : List ℕ → List Marks
+book_marks b = map marks_of (issue_rows b)
 
 -- what match m may use of issue i, where so many lots are used
 abbrev pub may_use : Basket → List ℕ → ℕ → ℕ → ℕ
-may_use B used d i = usable_of (get_or B.inside.now i false) (get_or B.stock.allocable.now (32 * d + i) 0) (get_or used (32 * d + i) 0)
+may_use B used d i = usable_of (get_or B.inside.now i false) (get_or B.stock.allocable.now (row_cell d i) 0) (get_or used (row_cell d i) 0)
 
 abbrev pub usable_in : List ℕ → Basket → List ℕ → ℕ → List ℕ
 usable_in b B used d = table (issues_in b) (may_use B used d)
@@ -59,14 +69,14 @@ pub record QuotesOf (b : List ℕ) (s : Stock) : Type 0 where
 
 pub record UsableAsked (b : List ℕ) (B : Basket) (m : Entry) (used : List ℕ) (places : ℕ) : Type 0 where
   pub sized : Sized b
-  pub deliverer : m.deliverer < 12
+  pub deliverer : m.deliverer < most_participants
   pub quotes : QuotesOf b B.stock
   pub marked : issues_in b ≤ length B.inside.now
-  pub stock : length B.stock.allocable.now ≡ 384
-  pub gone : length used ≡ 384
-  pub allocable_most : (i : ℕ) → i < issues_in b → get_or B.stock.allocable.now (32 * m.deliverer + i) 0 ≤ 200_000_000
+  pub stock : length B.stock.allocable.now ≡ lots_size
+  pub gone : length used ≡ lots_size
+  pub allocable_most : (i : ℕ) → i < issues_in b → get_or B.stock.allocable.now (row_cell m.deliverer i) 0 ≤ 200_000_000
   pub enough : (i : ℕ) → i < issues_in b → get_or B.inside.now i false ≡ true
-      → get_or used (32 * m.deliverer + i) 0 ≤ get_or B.stock.allocable.now (32 * m.deliverer + i) 0
+      → get_or used (row_cell m.deliverer i) 0 ≤ get_or B.stock.allocable.now (row_cell m.deliverer i) 0
   pub row : places ≡ issues_in b
 
 -- what match m may use, and what all of it is worth
@@ -79,7 +89,7 @@ pub record UsableLots (b : List ℕ) (B : Basket) (m : Entry) (used usable : Lis
 
 pub record Fillable (b : List ℕ) (s : Stock) (m : Entry) (usable : List ℕ) (all : ℕ) (order lots : List ℕ) : Type 0 where
   pub sized : Sized b
-  pub deliverer : m.deliverer < 12
+  pub deliverer : m.deliverer < most_participants
   pub amount : m.amount.0 ≤ 10_000_000_000_000
   pub quotes : QuotesOf b s
   pub wide : length usable ≡ issues_in b
@@ -90,8 +100,8 @@ pub record Fillable (b : List ℕ) (s : Stock) (m : Entry) (usable : List ℕ) (
 
 unfoldable pub filled_in : List ℕ → ℕ → Entry → List ℕ → List ℕ → Filled
 filled_in b k m usable order =
-    filled (get_or b 2 0) m.preferential (book_terms b) usable order
-    (forced_issue k (book_terms b) (block b (notices_at + 32 * m.deliverer) (issues_in b))) m.amount.0
+    filled (get_or b runs_at 0) m.preferential (book_terms b) usable order
+    (forced_issue k (book_terms b) (book_marks b) (block b (lots_row notices_at m.deliverer) (issues_in b))) m.amount.0
 
 -- ---- writing
 
@@ -102,21 +112,21 @@ lots_with f lots = set lots f.forced (get_or lots f.forced 0 + f.forced_lots.0)
 -- a match's lots are to be written: two participants, room for the lines, and sums that 64 bits hold
 pub record LotsWritable (b used : List ℕ) (s : Lists) (m : Entry) (f : Filling) (lots : List ℕ) : Type 0 where
   pub book : length b ≡ book_length
-  pub deliverer : m.deliverer < 12
-  pub receiver : m.receiver < 12
+  pub deliverer : m.deliverer < most_participants
+  pub receiver : m.receiver < most_participants
   pub apart : m.deliverer ≢ m.receiver
-  pub few : length lots ≤ 32
-  pub gone : length used ≡ 384
-  pub small : (i : ℕ) → i < length lots → get_or used (32 * m.deliverer + i) 0 + get_or (lots_with f lots) i 0 < 18446744073709551616
+  pub few : length lots ≤ most_issues
+  pub gone : length used ≡ lots_size
+  pub small : (i : ℕ) → i < length lots → get_or used (row_cell m.deliverer i) 0 + get_or (lots_with f lots) i 0 < 18446744073709551616
   pub forced : f.forced < length lots
   pub forced_small : get_or lots f.forced 0 + f.forced_lots.0 < 18446744073709551616
-  pub room : 3 * (s.counts.lines + length (lines_for s.counts.matches (lots_with f lots))) ≤ length s.lines.now
+  pub room : line_size * (s.counts.lines + length (lines_for s.counts.matches (lots_with f lots))) ≤ length s.lines.now
 
--- a deliverer's lots are used, in its row of 32
+-- a deliverer's lots are used, in its row
 pub record UsedBy (entry exit : List ℕ) (d : ℕ) (lots : List ℕ) : Type 0 where
   pub size : length exit ≡ length entry
-  pub more : (i : ℕ) → i < length lots → get_or exit (32 * d + i) 0 ≡ get_or entry (32 * d + i) 0 + get_or lots i 0
-  pub kept : (j : ℕ) → ((i : ℕ) → i < length lots → j ≢ 32 * d + i) → get_or exit j 0 ≡ get_or entry j 0
+  pub more : (i : ℕ) → i < length lots → get_or exit (row_cell d i) 0 ≡ get_or entry (row_cell d i) 0 + get_or lots i 0
+  pub kept : (j : ℕ) → ((i : ℕ) → i < length lots → j ≢ row_cell d i) → get_or exit j 0 ≡ get_or entry j 0
 
 -- lots used, and these with the forced ones listed and booked
 pub record LotsWritten (b used : List ℕ) (s : Lists) (m : Entry) (f : Filling) (lots b' used' : List ℕ) (t : Lists) : Type 0 where
@@ -126,15 +136,15 @@ pub record LotsWritten (b used : List ℕ) (s : Lists) (m : Entry) (f : Filling)
   pub only : LinesOnly s t
 
 pub record Writable (b : List ℕ) (k : ℕ) (m : Entry) (f : Filling) (lots used : List ℕ) (s : Lists) : Type 0 where
-  pub basket : k < 7
-  pub match_room : 7 * (s.counts.matches + 1) ≤ length s.matches.now
+  pub basket : k < baskets
+  pub match_room : match_size * (s.counts.matches + 1) ≤ length s.matches.now
   pub match_few : s.counts.matches + 1 < 18446744073709551616
   pub lots_asked : LotsWritable b used s m f lots
 
 -- match m is written: its lots used, listed and booked
 pub record Wrote (b : List ℕ) (k : ℕ) (m : Entry) (f : Filling) (lots used : List ℕ) (s : Lists) (b' used' : List ℕ) (t : Lists) : Type 0 where
   pub gone : UsedBy used used' m.deliverer lots
-  pub entry : t.matches.now ≡ over s.matches.now (7 * s.counts.matches) (entry_of k m.deliverer m.receiver m.amount.0 f)
+  pub entry : t.matches.now ≡ over s.matches.now (match_size * s.counts.matches) (entry_of k m.deliverer m.receiver m.amount.0 f)
   pub matched : t.counts.matches ≡ s.counts.matches + 1
   pub listed : Listed s.lines.now t.lines.now s.counts.lines s.counts.matches (lots_with f lots) t.counts.lines
   pub same : SameLists s t

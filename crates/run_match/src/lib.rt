@@ -26,20 +26,11 @@ fn plan_rows(
     requires { PlanRows book.now draw.now basket owed.old due.old }
     ensures { Planned (plan_in book.now draw.now basket) plan.new }
 {
-    let positions = layout::POSITIONS + layout::MOST_PARTICIPANTS * basket;
-    let pairs = layout::PAIRS + layout::SQUARE * basket;
-    let pairs_end = pairs + layout::SQUARE;
-    let positions_end = positions + owed.len();
-    lists::copy_with(&mut *owed, &book[positions..positions_end], signed::owed_of);
-    lists::copy_with(&mut *due, &book[positions..positions_end], signed::due_of);
-    matching::plan(
-        book[layout::RUNS],
-        &book[pairs..pairs_end],
-        draw,
-        owed,
-        due,
-        plan,
-    );
+    let positions = layout::positions(book, basket, owed.len());
+    lists::copy_with(&mut *owed, positions, signed::owed_of);
+    lists::copy_with(&mut *due, positions, signed::due_of);
+    let pairs = layout::marks(book, layout::PAIRS, basket);
+    matching::plan(book[layout::RUNS], pairs, draw, owed, due, plan);
 }
 
 // The matches of the basket.
@@ -48,8 +39,8 @@ pub fn plan_basket(book: &[u64], basket: usize, draw: &[u64], plan: &mut Plan)
     ensures { Planned (plan_in book.now draw.now basket) plan.new }
 {
     let participants = book[layout::PARTICIPANTS] as usize;
-    let mut owed = [0u64; 12];
-    let mut due = [0u64; 12];
+    let mut owed = [0u64; layout::MOST_PARTICIPANTS];
+    let mut due = [0u64; layout::MOST_PARTICIPANTS];
     plan_rows(
         book,
         basket,
@@ -77,12 +68,10 @@ impl Basket<'_> {
         ensures { UsableLots book.now self.now m used.now usable.new result.0 }
     {
         let issues = book[layout::ISSUES] as usize;
-        let at = layout::MOST_ISSUES * m.deliverer;
-        let end = at + issues;
         run_usable::usable_row(
             self.inside,
-            &self.stock.allocable[at..end],
-            &used[at..end],
+            layout::own_lots(self.stock.allocable, m.deliverer, issues),
+            layout::own_lots(used, m.deliverer, issues),
             self.stock.quotes,
             usable,
         )
@@ -102,12 +91,10 @@ impl Basket<'_> {
         ensures { FilledAs (filled_in book.now self.now.number m usable.now order.now.items) result lots.new }
     {
         let issues = book[layout::ISSUES] as usize;
-        let notices = layout::NOTICES + layout::MOST_ISSUES * m.deliverer;
-        let end = notices + issues;
         let supply = Supply {
-            terms: &book[layout::TERMS..layout::RECEIPTS],
+            issues: layout::terms(book, issues),
             quotes: self.stock.quotes,
-            notified: &book[notices..end],
+            notified: layout::lots(book, layout::NOTICES, m.deliverer, issues),
             usable,
             order: order.as_slice(),
             all,
@@ -137,7 +124,7 @@ fn write_lots(
     let forced = f.forced as usize;
     let further = f.forced_lots;
     lots[forced] = lots[forced] + further.0;
-    let at = layout::MOST_ISSUES * m.deliverer;
+    let at = layout::row_start(m.deliverer);
     let end = at + lots.len();
     issues::write_issues(book, &mut used[at..end], lists, m, &*lots);
     let place = at + forced;
