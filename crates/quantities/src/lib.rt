@@ -55,6 +55,16 @@ impl Sub for Yen {
     }
 }
 
+impl Lots {
+    // Down to a multiple of the step.
+    pub fn rounded_down(self, step: Lots) -> Lots
+        requires { 0 < step.0 }
+        ensures { result.0 ≡ self.0 / step.0 * step.0 }
+    {
+        Lots(self.0 / step.0 * step.0)
+    }
+}
+
 impl Add for Lots {
     type Output = Lots;
 

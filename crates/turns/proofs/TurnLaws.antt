@@ -158,7 +158,7 @@ module _ {q : Quote} {had usable reached goal : ℕ} (p : Rounding had usable re
     less : {t : Terms} → QuoteOf t q → n < whole
     less {t} r = omega (arith, within-room t r, past r {n = whole} (omega (arith, (v t r).worth)))
 
-    pub most_few : n ≤ usable
+    most_few : n ≤ usable
     most_few = of-all q (λ t r. omega (arith, less r))
 
     module _ {m : ℕ} (d : m ≡ n / unit * unit) where

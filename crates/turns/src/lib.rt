@@ -108,7 +108,7 @@ impl Standing {
         if all.reached <= target {
             return Some(all);
         }
-        let most = whole_units(self.quote.most(room));
+        let most = self.quote.most(room).rounded_down(UNIT);
         Some(with_lots(self.quote, self.reached, most))
     }
 

@@ -1,7 +1,7 @@
 -- `turns::Standing::take_units` meets its contract. Assumes nothing.
 use Rattle.std.proofs.Common.{arith}
 use Rattle.value.proofs.OrderLaws.{le-yes, le-no, lt-yes}
-use Rattle.turns.proofs.TurnLaws.{units-none, units-all, units-one, most_few, most-addable, units-most}
+use Rattle.turns.proofs.TurnLaws.{units-none, units-all, units-one, most-addable, units-most}
 use Rattle.turns.proofs.Standing.take_units.Goals as goal
 
 pub returns-then-lt : goal.returns-then-lt
@@ -14,20 +14,11 @@ returns-then-lt-2 c =
 pub returns-then-le : goal.returns-then-le
 returns-then-le c = λ t q. units-all c.requires q c.whole_units-whole.ensures c.with_lots-all.ensures (le-yes _ _ c.le.ensures c.if-le.true)
 
-pub whole_units-most-requires : goal.whole_units-most-requires
-whole_units-most-requires c = record {
-  most = omega (
-    arith,
-    most_few c.requires c.whole_units-whole.ensures c.with_lots-all.ensures (le-no _ _ c.le.ensures c.if-le.false) c.sub-room.ensures c.most.ensures,
-    c.requires.usable_most,
-  );
-}
-
 pub with_lots-requires : goal.with_lots-requires
 with_lots-requires c =
-    most-addable c.requires c.whole_units-whole.ensures c.with_lots-all.ensures (le-no _ _ c.le.ensures c.if-le.false) c.sub-room.ensures c.most.ensures c.whole_units-most.ensures
+    most-addable c.requires c.whole_units-whole.ensures c.with_lots-all.ensures (le-no _ _ c.le.ensures c.if-le.false) c.sub-room.ensures c.most.ensures c.rounded_down-most.ensures
 
 pub returns : goal.returns
 returns c = λ t q.
-    units-most c.requires c.whole_units-whole.ensures c.with_lots-all.ensures (le-no _ _ c.le.ensures c.if-le.false) c.sub-room.ensures c.most.ensures c.whole_units-most.ensures
+    units-most c.requires c.whole_units-whole.ensures c.with_lots-all.ensures (le-no _ _ c.le.ensures c.if-le.false) c.sub-room.ensures c.most.ensures c.rounded_down-most.ensures
     q c.with_lots.ensures
