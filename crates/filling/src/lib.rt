@@ -10,6 +10,8 @@ use quantities::{Lots, Yen};
 use turns::{Pass, Standing};
 use value::Quote;
 
+const SHORTAGE_STEP: Yen = Yen(10_000_000);
+
 // "the shortage is rounded up to 10,000,000 yen, at most the amount .. the rest is the covered amount".
 #[tactic(auto, unfolding(rule::specs::Filling::covered, rule::specs::Filling::shortage))]
 pub fn covered(amount: Yen, usable: Yen) -> Yen
@@ -19,12 +21,11 @@ pub fn covered(amount: Yen, usable: Yen) -> Yen
     if amount <= usable {
         return amount;
     }
-    let missing = amount.0 - usable.0;
-    let shortage = Yen((missing + 9_999_999) / 10_000_000 * 10_000_000);
+    let shortage = (amount - usable).rounded_up(SHORTAGE_STEP);
     if amount <= shortage {
         return Yen(0);
     }
-    Yen(amount.0 - shortage.0)
+    amount - shortage
 }
 
 // Whether filling goes through the issues: not where what is short is forced, or nothing is covered.

@@ -69,11 +69,7 @@ fn usable(inside: bool, allocable: Lots, used: Lots) -> Lots
     requires { Enough inside allocable.0 used.0 }
     ensures { result.0 ≡ usable_of inside allocable.0 used.0 }
 {
-    if inside {
-        Lots(allocable.0 - used.0)
-    } else {
-        Lots(0)
-    }
+    if inside { allocable - used } else { Lots(0) }
 }
 
 // What may be used of each issue, into a lent row, and what all of it is worth. By number: a zip of the five rows would be tuples in

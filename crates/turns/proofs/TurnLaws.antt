@@ -1,5 +1,5 @@
 -- An issue's turn: the code's numbers, by what its calls ensure of them, are the rule's. Assumes nothing.
-use mathlib.Core.Path.{◌≡◌, sym, ap}
+use mathlib.Core.Path.{◌≡◌, sym, ap, ◌∙◌}
 use Prim.Native.Nat.{ℕ, ◌+◌, ◌-◌, ◌*◌, ◌/◌, ◌≤◌, ◌<◌, min, max}
 use native.Mathlib.Nat.{le_refl}
 use native.Mathlib.Decide.{dec_le}
@@ -50,22 +50,29 @@ up_none p t h = omega (arith, p.bounded)
 
 -- what is short, beside the others
 module _ {q : Quote} {had reached amount : ℕ} (s : Part q had reached) (p : Short reached amount) {rest : ℕ} (o : Ensured q (λ t. besides t had reached) rest) where
-  pub rest-most : rest ≤ reached
+  rest-most : rest ≤ reached
   rest-most = of-all q (λ t r. omega (arith, o t r))
 
   pub rest_below : rest < amount
   rest_below = omega (arith, rest-most, p.below)
 
   -- the fewest lots that reach are no fewer than the match has
-  pub more : {t : Terms} → QuoteOf t q → had ≤ fewest t (amount - rest)
+  more : {t : Terms} → QuoteOf t q → had ≤ fewest t (amount - rest)
   more {t} r = go (dec_le had (fewest t (amount - rest)))
     where
       go : Dec (had ≤ fewest t (amount - rest)) → had ≤ fewest t (amount - rest)
       go (yes h) = h
       go (no h) = absurd (omega (arith, fewest-reaches t (some-price r) (amount - rest) {n = had} (omega arith), o t r, s.within t r, p.below))
 
-  pub further : {n : ℕ} → Ensured q (λ t. fewest t (amount - rest)) n → had ≤ n
-  further e = of-all q (λ t r. omega (arith, more r, e t r))
+  needed : {need n : ℕ} → need ≡ amount - rest → Ensured q (λ t. fewest t need) n → Ensured q (λ t. fewest t (amount - rest)) n
+  needed s e t r = rw s at (e t r)
+
+  pub further-most : {need n : ℕ} → need ≡ amount - rest → Ensured q (λ t. fewest t need) n → had ≤ n
+  further-most s e = of-all q (λ t r. omega (arith, more r, needed s e t r))
+
+  pub further : {need n m : ℕ} → need ≡ amount - rest → Ensured q (λ t. fewest t need) n → m ≡ n - had
+      → Ensured q (λ t. fewest t (amount - besides t had reached) - had) m
+  further s e d t r = let f = needed s e t r in d ∙ rw (← o t r) (ap (λ (n : ℕ). n - had) f)
 
   module _ {bound : ℕ} (b : Raising had bound reached amount) where
     pub bound-addable : Addable rest bound
@@ -83,21 +90,21 @@ module _ {q : Quote} {had reached amount : ℕ} (s : Part q had reached) (p : Sh
             rw (e, ← o t r) (a t r)
 
     -- not all of it is needed
-    module _ {x : Turn} (v : Valued q rest bound x) (enough : amount ≤ x.reached.0) {n : ℕ} (e : Ensured q (λ t. fewest t (amount - rest)) n) where
+    module _ {x : Turn} (v : Valued q rest bound x) (enough : amount ≤ x.reached.0) {need n : ℕ} (d : need ≡ amount - rest) (e : Ensured q (λ t. fewest t need) n) where
       few : {t : Terms} → QuoteOf t q → fewest t (amount - rest) ≤ bound
       few {t} r = fewest-least t (some-price r) (amount - rest) (omega (arith, (v t r).worth))
 
       pub few-addable : Addable rest n
       few-addable = record {
-        lots_most = of-all q (λ t r. omega (arith, e t r, few r, b.bound_most));
+        lots_most = of-all q (λ t r. omega (arith, needed d e t r, few r, b.bound_most));
         others_most = omega (arith, rest_below, p.amount_most);
       }
 
       pub up-few : {t : Terms} {x : Turn} → QuoteOf t q → Valued q rest n x → Turned t (besides t had reached) (up_to t bound had reached amount) x
       unfolding up_to
       up-few {t} r a =
-          let d : min bound (max had (fewest t (amount - rest))) ≡ n = omega (arith, e t r, few r, more r) in
-          rw (← o t r, d) (a t r)
+          let k : min bound (max had (fewest t (amount - rest))) ≡ n = omega (arith, needed d e t r, few r, more r) in
+          rw (← o t r, k) (a t r)
 
 -- ---- whole units within the target
 
@@ -110,9 +117,6 @@ units-none {usable = usable} p t h =
 
 units-addable : {had usable reached goal n : ℕ} → Rounding had usable reached goal → n ≤ usable → Addable reached n
 units-addable p h = record { lots_most = omega (arith, h, p.usable_most); others_most = omega (arith, p.kept, p.goal_most) }
-
-pub whole-addable : {had usable reached goal n : ℕ} → Rounding had usable reached goal → n ≡ usable / unit * unit → Addable reached n
-whole-addable p e = units-addable p (omega arith)
 
 module _ {q : Quote} {had usable reached goal : ℕ} (p : Rounding had usable reached goal) where
   -- the match has no lot of the issue: all of it are others
@@ -147,18 +151,25 @@ module _ {q : Quote} {had usable reached goal : ℕ} (p : Rounding had usable re
 
   -- not all whole units stay within it
   module _ {whole : ℕ} {x : Turn} (w : whole ≡ usable / unit * unit) (v : Valued q reached whole x) (some : goal < x.reached.0)
-      {n : ℕ} (e : Ensured q (λ t. most t (goal - reached)) n) where
+      {room n : ℕ} (s : room ≡ goal - reached) (e : Ensured q (λ t. most t room) n) where
+    within-room : Ensured q (λ t. most t (goal - reached)) n
+    within-room t r = rw s at (e t r)
+
     less : {t : Terms} → QuoteOf t q → n < whole
-    less {t} r = omega (arith, e t r, past r {n = whole} (omega (arith, (v t r).worth)))
+    less {t} r = omega (arith, within-room t r, past r {n = whole} (omega (arith, (v t r).worth)))
 
-    pub most-addable : Addable reached (n / unit * unit)
-    most-addable = units-addable p (of-all q (λ t r. omega (arith, less r)))
+    most_few : n ≤ usable
+    most_few = of-all q (λ t r. omega (arith, less r))
 
-    pub units-most : {t : Terms} {x : Turn} → QuoteOf t q → Valued q reached (n / unit * unit) x → Turned t (besides t had reached) (whole_units t usable had reached goal) x
-    unfolding whole_units
-    units-most {t} r a =
-        let d : min (usable / unit) (most t (goal - reached) / unit) * unit ≡ n / unit * unit = omega (arith, e t r, less r) in
-        rw (← o t r, d) (a t r)
+    module _ {m : ℕ} (d : m ≡ n / unit * unit) where
+      pub most-addable : Addable reached m
+      most-addable = units-addable p (omega (arith, most_few))
+
+      pub units-most : {t : Terms} {x : Turn} → QuoteOf t q → Valued q reached m x → Turned t (besides t had reached) (whole_units t usable had reached goal) x
+      unfolding whole_units
+      units-most {t} r a =
+          let k : min (usable / unit) (most t (goal - reached) / unit) * unit ≡ m = omega (arith, within-room t r, less r) in
+          rw (← o t r, k) (a t r)
 
 -- ---- a pass
 
@@ -172,22 +183,19 @@ module _ {had usable reached amount : ℕ} where
     goal_most = omega (arith, p.short.amount_most);
   }
 
-  pub raising : {pass : Pass} {bound : ℕ} → Turnable pass had usable reached amount → bound ≡ bound_of pass usable had → bound ≤ most_lots → Raising had bound reached amount
+  raising : {pass : Pass} {bound : ℕ} → Turnable pass had usable reached amount → bound ≡ bound_of pass usable had → bound ≤ most_lots → Raising had bound reached amount
   raising p e h = record { short = p.short; bounded = rw e p.bounded; bound_most = h }
 
   -- ---- the second pass
 
   module _ (p : Turnable Remainders had usable reached amount) where
-    -- no further unit is left
-    pub bound_all : usable - had < unit → usable ≡ bound_of Remainders usable had
-    bound_all h = omega (arith, p.fresh, p.within)
-
     -- beside the whole units of what may be used there is its remainder
-    pub bound-remainder : {whole : ℕ} → whole ≡ usable / unit * unit → had + (usable - whole) ≡ bound_of Remainders usable had
+    bound-remainder : {whole : ℕ} → whole ≡ usable / unit * unit → had + (usable - whole) ≡ bound_of Remainders usable had
     bound-remainder e = omega (arith, p.fresh)
 
     -- which is none
-    pub remainder-none : {whole : ℕ} → whole ≡ usable / unit * unit → usable - whole ≡ 0 → (t : Terms) → up_to t (bound_of Remainders usable had) had reached amount ≡ had
-    remainder-none e z t =
+    pub remainder-none : {whole rest : ℕ} → whole ≡ usable / unit * unit → rest ≡ usable - whole → rest ≡ 0
+        → (t : Terms) → up_to t (bound_of Remainders usable had) had reached amount ≡ had
+    remainder-none e r z t =
         let b : had ≡ bound_of Remainders usable had = omega (arith, bound-remainder e) in
         rw (← b) (up_none (raising p b (omega (arith, p.within, p.usable_most))) t (le_refl had))

@@ -14,6 +14,9 @@ use value::Quote;
 // A unit of a drawn match's first pass.
 const UNIT: Lots = Lots(100_000);
 
+// Its target is a multiple of so many yen.
+const TARGET_STEP: Yen = Yen(5_000_000_000);
+
 // The passes of a drawn match. The last one is also all of a preferential match.
 #[derive(Clone, Copy)]
 pub enum Pass {
@@ -43,10 +46,9 @@ fn with_lots(quote: Quote, others: Yen, lots: Lots) -> Turn
     requires { Addable others.0 lots.0 }
     ensures { Valued quote others.0 lots.0 result }
 {
-    let part = quote.value(lots);
     Turn {
         lots,
-        reached: Yen(others.0 + part.0),
+        reached: others + quote.value(lots),
     }
 }
 
@@ -67,8 +69,7 @@ impl Standing {
         if self.had == Lots(0) {
             return self.reached;
         }
-        let part = self.quote.value(self.had);
-        Yen(self.reached.0 - part.0)
+        self.reached - self.quote.value(self.had)
     }
 
     // "take all, or the fewest lots that reach the amount": the match may have up to a bound of the issue. None where it has that.
@@ -85,7 +86,7 @@ impl Standing {
         if all.reached < amount {
             return Some(all);
         }
-        let fewest = self.quote.fewest(Yen(amount.0 - rest.0));
+        let fewest = self.quote.fewest(amount - rest);
         Some(with_lots(self.quote, rest, fewest))
     }
 
@@ -98,7 +99,7 @@ impl Standing {
         if usable < UNIT {
             return None;
         }
-        let room = Yen(target.0 - self.reached.0);
+        let room = target - self.reached;
         if room < self.quote.least(UNIT) {
             return None;
         }
@@ -107,8 +108,8 @@ impl Standing {
         if all.reached <= target {
             return Some(all);
         }
-        let most = self.quote.most(room);
-        Some(with_lots(self.quote, self.reached, Lots(most.0 / UNIT.0 * UNIT.0)))
+        let most = self.quote.most(room).rounded_down(UNIT);
+        Some(with_lots(self.quote, self.reached, most))
     }
 
     // "each issue's remainder under a unit, as counted when the match began": the first pass took whole units. Where no further unit is
@@ -117,16 +118,16 @@ impl Standing {
         requires { Turnable Pass.Remainders self.had.0 usable.0 self.reached.0 amount.0 }
         ensures { (t : Terms) → QuoteOf t self.quote → Took t self.had.0 self.reached.0 (next_of Pass.Remainders t usable.0 self.had.0 self.reached.0 amount.0) result }
     {
-        let left = Lots(usable.0 - self.had.0);
+        let left = usable - self.had;
         if left < UNIT {
             return self.take_up_to(usable, amount);
         }
         let whole = whole_units(usable);
-        let remainder = Lots(usable.0 - whole.0);
+        let remainder = usable - whole;
         if remainder == Lots(0) {
             return None;
         }
-        self.take_up_to(Lots(self.had.0 + remainder.0), amount)
+        self.take_up_to(self.had + remainder, amount)
     }
 
     // The issue's turn in a pass; none where it takes nothing.
@@ -136,7 +137,7 @@ impl Standing {
     {
         match pass {
             // "the amount rounded down to a multiple of 5,000,000,000 yen"
-            Pass::Units => self.take_units(usable, Yen(amount.0 / 5_000_000_000 * 5_000_000_000)),
+            Pass::Units => self.take_units(usable, amount.rounded_down(TARGET_STEP)),
             Pass::Remainders => self.take_remainder(usable, amount),
             Pass::Rest => self.take_up_to(usable, amount),
         }
@@ -148,7 +149,6 @@ impl Standing {
         ensures { (t : Terms) → QuoteOf t self.quote → result.0 ≡ fewest_of t (amount.0 - besides t self.had.0 self.reached.0) - self.had.0 }
     {
         let rest = self.others();
-        let fewest = self.quote.fewest(Yen(amount.0 - rest.0));
-        Lots(fewest.0 - self.had.0)
+        self.quote.fewest(amount - rest) - self.had
     }
 }

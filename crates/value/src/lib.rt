@@ -92,7 +92,6 @@ impl Quote {
         if lots == Lots(0) {
             return sum;
         }
-        let part = self.value(lots);
-        Yen(sum.0 + part.0)
+        sum + self.value(lots)
     }
 }

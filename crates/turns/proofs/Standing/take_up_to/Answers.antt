@@ -14,13 +14,14 @@ pub returns-then-lt : goal.returns-then-lt
 returns-then-lt c =
     λ t q. up-all c.args.self.part c.requires.short c.others-rest.ensures c.requires q c.with_lots-all.ensures (lt-yes _ _ c.lt.ensures c.if-lt.true)
 
-pub overflow_sub-amount : goal.overflow_sub-amount
-overflow_sub-amount c = omega (arith, rest_below c.args.self.part c.requires.short c.others-rest.ensures)
+pub sub-requires : goal.sub-requires
+sub-requires c = omega (arith, rest_below c.args.self.part c.requires.short c.others-rest.ensures)
 
 pub with_lots-requires : goal.with_lots-requires
 with_lots-requires c =
-    few-addable c.args.self.part c.requires.short c.others-rest.ensures c.requires c.with_lots-all.ensures (lt-no _ _ c.lt.ensures c.if-lt.false) c.fewest-fewest.ensures
+    few-addable c.args.self.part c.requires.short c.others-rest.ensures c.requires c.with_lots-all.ensures (lt-no _ _ c.lt.ensures c.if-lt.false) c.sub.ensures c.fewest-fewest.ensures
 
 pub returns : goal.returns
 returns c = λ t q.
-    up-few c.args.self.part c.requires.short c.others-rest.ensures c.requires c.with_lots-all.ensures (lt-no _ _ c.lt.ensures c.if-lt.false) c.fewest-fewest.ensures q c.with_lots.ensures
+    up-few c.args.self.part c.requires.short c.others-rest.ensures c.requires c.with_lots-all.ensures (lt-no _ _ c.lt.ensures c.if-lt.false) c.sub.ensures c.fewest-fewest.ensures
+    q c.with_lots.ensures

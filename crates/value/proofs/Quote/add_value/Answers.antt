@@ -7,5 +7,5 @@ use Rattle.value.proofs.Quote.add_value.Goals as goal
 pub returns-then-eq : goal.returns-then-eq
 returns-then-eq c = λ t q. nothing-added _ (eq_yes _ _ c.eq.ensures c.if-eq.true) t
 
-pub overflow_add-result : goal.overflow_add-result
-overflow_add-result c = omega (arith, part_small c.args.self c.requires.few c.value-part.ensures, c.requires.small)
+pub add-requires : goal.add-requires
+add-requires c = omega (arith, part_small c.args.self c.requires.few c.value.ensures, c.requires.small)
