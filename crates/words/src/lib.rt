@@ -6,6 +6,12 @@ ghost use Rattle.std.specs.List.{All};
 ghost use Rattle.std.specs.Str.Parse.{IsNumeral, digits_value};
 ghost use Rattle.words.specs.Words.{words_between};
 
+mod line;
+mod unread;
+
+pub use line::{Line, read_number};
+pub use unread::{Found, Unread};
+
 use std::alloc::{AllocError, Global};
 
 // The words of a text, which blanks stand between.
