@@ -1,9 +1,13 @@
 // A basket, which is written as a letter.
-ghost use Rattle.std.specs.Prelude.{◌≡◌, OkIff, slice_index, ◌-◌};
+ghost use Rattle.std.specs.Prelude.{◌≡◌, ◌-◌, ◌<◌, slice_index, IfOk, OkIff};
+ghost use Rattle.words.specs.Lines.{Takes, words_left};
 ghost use Rattle.day_words.specs.Named.{IsLetter};
 
+use layout::BASKETS;
 use std::fmt;
-use words::{Found, Unread};
+use words::{Found, Line, Unread};
+
+const LETTER: &str = "basket letter";
 
 // "A basket is a letter, A to G (a letter after G is passed on as its number ..)."
 pub fn read_basket(word: &[u8]) -> Result<u64, Unread<'_>>
@@ -11,8 +15,29 @@ pub fn read_basket(word: &[u8]) -> Result<u64, Unread<'_>>
 {
     match word {
         [letter @ b'A'..=b'Z'] => Ok(u64::from(*letter - b'A')),
-        _ => Err(Unread::Expected("a basket's letter", Found::Word(word))),
+        _ => Err(Unread::Expected(LETTER, Found::Word(word))),
     }
+}
+
+// The next word, which is a basket.
+pub fn next_basket<'a>(line: &mut Line<'a>) -> Result<u64, Unread<'a>>
+    ensures { IfOk result (λ b. Takes (λ word. IsLetter word × (slice_index word 0 - 65 ≡ b)) (words_left line.old) (words_left line.new)) }
+{
+    let word = line.word(LETTER)?;
+    read_basket(word)
+}
+
+// The next word, which is one of the baskets that there are.
+pub fn next_basket_of_day<'a>(line: &mut Line<'a>) -> Result<u64, Unread<'a>>
+    ensures below { IfOk result (λ b. b < 7) }
+    ensures read { IfOk result (λ b. Takes (λ word. IsLetter word × (slice_index word 0 - 65 ≡ b)) (words_left line.old) (words_left line.new)) }
+{
+    let word = line.word(LETTER)?;
+    let basket = read_basket(word)?;
+    if basket >= BASKETS as u64 {
+        return Err(Unread::Expected("basket A to G", Found::Word(word)));
+    }
+    Ok(basket)
 }
 
 #[derive(Clone, Copy)]

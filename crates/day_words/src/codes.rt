@@ -1,10 +1,12 @@
 // The codes of a day's issues.
-ghost use Rattle.std.specs.Prelude.{◌≡◌, ◌↔◌, ◌%◌, slice_index, EachIndex, IfOk, IsTrue, OnErr};
-ghost use Rattle.words.specs.Lines.{IsNumber};
+ghost use Rattle.std.specs.Prelude.{◌≡◌, ◌↔◌, ◌%◌, ◌<◌, length, slice_index, EachIndex, IfOk, IsTrue, OnErr};
+ghost use Rattle.words.specs.Lines.{IsNumber, Takes, words_left};
 ghost use Rattle.day_words.specs.Named.{IsCode, IsFirstPlace, Names, codes_in};
 
 use layout::{CODE, MOST_ISSUES};
-use words::{Unread, read_number};
+use words::{Line, Unread, read_number};
+
+const ISSUE: &str = "issue number or code";
 
 // the bytes of the codes of the largest day
 pub const CODES: usize = CODE * MOST_ISSUES;
@@ -23,7 +25,8 @@ fn is_code(word: &[u8]) -> bool
 }
 
 // The codes that stand in a book, a byte to a cell; zeros after those of the day.
-pub fn codes_of(cells: &[u64; CODES]) -> [u8; CODES]
+pub fn codes_of(cells: &[u64]) -> [u8; CODES]
+    requires { length cells.now ≡ 384 }
     ensures { EachIndex result (λ k. slice_index result k ≡ slice_index cells.now k % 256) }
 {
     let mut bytes = [0; CODES];
@@ -56,7 +59,28 @@ impl<'a> Codes<'a> {
         if is_code(word) {
             return Ok(self.place(word).unwrap_or(MOST_ISSUES) as u64);
         }
-        read_number(word, "an issue's number or code")
+        read_number(word, ISSUE)
+    }
+
+    // The next word, which is an issue.
+    pub fn next_issue<'w>(&self, line: &mut Line<'w>) -> Result<u64, Unread<'w>>
+        ensures { IfOk result (λ n. Takes (λ word. Names (codes_in self.now.bytes.now) word n) (words_left line.old) (words_left line.new)) }
+    {
+        let word = line.word(ISSUE)?;
+        self.read_issue(word)
+    }
+
+    // The next word, which is an issue below a limit.
+    pub fn next_issue_below<'w>(&self, line: &mut Line<'w>, limit: u64) -> Result<u64, Unread<'w>>
+        ensures below { IfOk result (λ n. n < limit) }
+        ensures read { IfOk result (λ n. Takes (λ word. Names (codes_in self.now.bytes.now) word n) (words_left line.old) (words_left line.new)) }
+    {
+        let word = line.word(ISSUE)?;
+        let issue = self.read_issue(word)?;
+        if issue >= limit {
+            return Err(Unread::Below("issue", limit, word));
+        }
+        Ok(issue)
     }
 
     // The code of an issue; nothing where there is no such issue.

@@ -6,6 +6,6 @@ mod basket;
 mod codes;
 mod entry;
 
-pub use basket::{Basket, read_basket};
-pub use codes::Codes;
+pub use basket::{Basket, next_basket, next_basket_of_day, read_basket};
+pub use codes::{CODES, Codes, codes_of};
 pub use entry::{entries, read_entry};

@@ -1,5 +1,5 @@
 // A line's words, read one after the other by what is expected there.
-ghost use Rattle.std.specs.Prelude.{◌≡◌, ◌↔◌, ◌≤◌, ◌∷◌, [], length, map, slice_index, EachIndex, IfOk, IfErr, OkIff, OnErr, OnOk, IsOk, IsTrue};
+ghost use Rattle.std.specs.Prelude.{◌≡◌, ◌↔◌, ◌<◌, ◌≤◌, ◌∷◌, [], length, map, slice_index, EachIndex, IfOk, IfErr, OkIff, OnErr, OnOk, IsOk, IsTrue};
 ghost use Rattle.std.specs.Int.{IsInRange};
 ghost use Rattle.std.specs.List.{All};
 ghost use Rattle.std.specs.Str.Parse.{IsNumeral, digits_value};
@@ -65,6 +65,19 @@ impl<'a> Line<'a> {
     {
         let word = self.word(what)?;
         read_number(word, what)
+    }
+
+    // The next word, which is a number below a limit.
+    pub fn below(&mut self, what: &'static str, limit: u64) -> Result<u64, Unread<'a>>
+        ensures below { IfOk result (λ n. n < limit) }
+        ensures read { IfOk result (λ n. Takes (λ word. IsNumber word × (digits_value 10 word ≡ n)) (words_left self.old) (words_left self.new)) }
+    {
+        let word = self.word(what)?;
+        let number = read_number(word, what)?;
+        if number >= limit {
+            return Err(Unread::Below(what, limit, word));
+        }
+        Ok(number)
     }
 
     // All words that are left, which are numbers.
