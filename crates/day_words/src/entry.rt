@@ -8,13 +8,18 @@ use crate::codes::Codes;
 use std::alloc::Global;
 use words::{Found, Line, Unread, read_number};
 
-// "ISSUE=LOTS"
+const ENTRY: &str = "ISSUE=LOTS";
+
+// "ISSUE=LOTS". Where a part is missing, an error line shows the whole word, and else the part that is wrong.
 pub fn read_entry<'w>(codes: &Codes<'_>, word: &'w [u8]) -> Result<(u64, u64), Unread<'w>>
     ensures { IfOk result (λ entry. IsEntry (codes_in codes.now.bytes.now) word.now entry.0 entry.1) }
 {
     let Some((issue, lots)) = words::split_once(word, b'=') else {
-        return Err(Unread::Expected("ISSUE=LOTS", Found::Word(word)));
+        return Err(Unread::Expected(ENTRY, Found::Word(word)));
     };
+    if issue.is_empty() || lots.is_empty() {
+        return Err(Unread::Expected(ENTRY, Found::Word(word)));
+    }
     Ok((codes.read_issue(issue)?, read_number(lots, "lots")?))
 }
 

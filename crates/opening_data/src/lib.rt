@@ -1,9 +1,11 @@
 // What an opening is given, gathered line by line until `open` makes the call. The comments quote docs/DAYFILE.md.
 #![tactic(auto)]
 
-ghost use Rattle.std.specs.Prelude.{◌≡◌, ◌+◌, ◌*◌, ◌<◌, ◌≤◌, min, length, slice_range, OnErr};
+ghost use Rattle.std.specs.Prelude.{◌≡◌, ◌+◌, ◌*◌, ◌<◌, ◌≤◌, min, length, slice_range, OnErr, OnOk};
 ghost use Rattle.rule.specs.Layout.{open_of};
 ghost use Rattle.reply.specs.Answers.{told};
+ghost use Rattle.words.specs.Lines.{words_left};
+ghost use Rattle.opening_data.specs.Gathered.{empty, DayLine, IssueLine, ReceiptLine, PairLine};
 
 use day_words::{CODES, Codes, next_basket_of_day};
 use layout::{BASKETS, CODE, MOST_ISSUES, MOST_PARTICIPANTS, SQUARE, TERM};
@@ -49,7 +51,9 @@ fn pair_place(participants: usize, basket: usize, deliverer: usize, receiver: us
 }
 
 impl OpeningData {
-    pub fn new(participants: u64, issues: u64) -> OpeningData {
+    pub fn new(participants: u64, issues: u64) -> OpeningData
+        ensures { result ≡ empty participants issues }
+    {
         OpeningData {
             participants,
             issues,
@@ -63,7 +67,8 @@ impl OpeningData {
 
     // "day PARTICIPANTS ISSUES": what was gathered before counts no more.
     pub fn day<'a>(&mut self, mut line: Line<'a>) -> Result<(), Unread<'a>>
-        ensures { OnErr result (self.new ≡ self.old) }
+        ensures read { OnOk result (DayLine (words_left line.entry) self.old self.new) }
+        ensures unread { OnErr result (self.new ≡ self.old) }
     {
         let participants = line.number("participants")?;
         let issues = line.number("issues")?;
@@ -74,7 +79,8 @@ impl OpeningData {
 
     // "issue CODE KIND PRICE COUPON DAYS REDEEMED INTEREST"
     pub fn issue<'a>(&mut self, mut line: Line<'a>) -> Result<(), Unread<'a>>
-        ensures { OnErr result (self.new ≡ self.old) }
+        ensures read { OnOk result (IssueLine (words_left line.entry) self.old self.new) }
+        ensures unread { OnErr result (self.new ≡ self.old) }
     {
         let code = line.word("code")?;
         if code.len() != CODE {
@@ -102,7 +108,9 @@ impl OpeningData {
     }
 
     // The codes of the issues that are listed.
-    fn listed_codes(&self) -> Codes<'_> {
+    fn listed_codes(&self) -> Codes<'_>
+        ensures { result.bytes.now ≡ slice_range self.now.codes 0 (12 * min self.now.listed 32) }
+    {
         let listed = self.listed.min(MOST_ISSUES);
         Codes {
             bytes: &self.codes[..CODE * listed],
@@ -111,7 +119,8 @@ impl OpeningData {
 
     // "receipt PARTICIPANT ISSUE LOTS"
     pub fn receipt<'a>(&mut self, mut line: Line<'a>) -> Result<(), Unread<'a>>
-        ensures { OnErr result (self.new ≡ self.old) }
+        ensures read { OnOk result (ReceiptLine (words_left line.entry) self.old self.new) }
+        ensures unread { OnErr result (self.new ≡ self.old) }
     {
         let participant = line.below("participant", self.participants)?;
         let issue = self.listed_codes().next_issue_below(&mut line, self.issues)?;
@@ -130,7 +139,8 @@ impl OpeningData {
 
     // "pair BASKET DELIVERER RECEIVER"
     pub fn pair<'a>(&mut self, mut line: Line<'a>) -> Result<(), Unread<'a>>
-        ensures { OnErr result (self.new ≡ self.old) }
+        ensures read { OnOk result (PairLine (words_left line.entry) self.old self.new) }
+        ensures unread { OnErr result (self.new ≡ self.old) }
     {
         let participants = self.participants;
         let basket = next_basket_of_day(&mut line)?;
