@@ -1,6 +1,8 @@
 // The lines, a function each.
 ghost use Rattle.std.specs.Prelude.{◌≡◌, length};
-ghost use Rattle.day_lines.specs.Answered.{UnreadKeeps};
+ghost use Rattle.rule.specs.Layout.{open_of};
+ghost use Rattle.words.specs.Lines.{words_left};
+ghost use Rattle.day_lines.specs.Answered.{Answers, UnreadKeeps, Trades, Notices};
 
 use crate::failure::Failure;
 use day_words::{Codes, codes_of, entries, next_basket};
@@ -24,7 +26,7 @@ pub fn open<'a>(rt: &impl Print, data: &OpeningData, book: &mut [u64], line: Lin
 
 // "trade SELLER BUYER BASKET YEN"
 pub fn trade<'a>(rt: &impl Print, book: &mut [u64], mut line: Line<'a>) -> Result<(), Failure<'a>>
-    ensures { UnreadKeeps result book.old book.new }
+    ensures { Answers result (Trades (words_left line.entry) book.old book.new) book.old book.new }
 {
     let seller = line.number("seller")?;
     let buyer = line.number("buyer")?;
@@ -46,7 +48,7 @@ fn codes_in_book(book: &[u64]) -> [u8; day_words::CODES]
 // "notice PARTICIPANT ISSUE=LOTS ..": a code that the day does not have is passed on as 32, and gets refusal 12.
 pub fn notice<'a, R: Print + AllocGlobal>(rt: &R, book: &mut [u64], mut line: Line<'a>) -> Result<(), Failure<'a>>
     requires { length book.old ≡ 3832 }
-    ensures { UnreadKeeps result book.old book.new }
+    ensures { Answers result (Notices (words_left line.entry) book.old book.new) book.old book.new }
 {
     let participant = line.number("participant")?;
     line.at_most(ROOM, "entries")?;

@@ -1,6 +1,6 @@
 // What a line is answered in place of its records.
 ghost use Rattle.std.specs.Prelude.{◌≡◌};
-ghost use Rattle.day_lines.specs.declared.failure.Failure.TheVariants.{Refused, Unwritten};
+ghost use Rattle.day_lines.specs.declared.failure.Failure.TheVariants.{Unread, Refused, Unwritten};
 
 use reply::Refusal;
 use std::alloc::AllocError;
@@ -16,6 +16,8 @@ pub enum Failure<'a> {
 }
 
 impl<'a> From<Unread<'a>> for Failure<'a> {
+    ghost from_gives = { λ why failure. failure ≡ Unread why };
+
     fn from(unread: Unread<'a>) -> Self {
         Failure::Unread(unread)
     }

@@ -36,7 +36,9 @@ pub record IssueLine (words : List (List ℕ)) (old new : OpeningData) : Type 0 
   pub parts : words ≡ code ∷ terms
   pub lengths : (length code ≡ 12) × (length terms ≡ 6)
   pub room : old.listed < 32
-  pub one_more : new.listed ≡ old.listed + 1
+  pub gathered : new ≡ record old { listed = old.listed + 1; codes = new.codes; terms = new.terms }
+  pub earlier_codes : slice_range new.codes 0 (12 * old.listed) ≡ slice_range old.codes 0 (12 * old.listed)
+  pub earlier_terms : slice_range new.terms 0 (6 * old.listed) ≡ slice_range old.terms 0 (6 * old.listed)
   pub code_kept : slice_range new.codes (12 * old.listed) (12 * old.listed + 12) ≡ code
   pub terms_kept : slice_range new.terms (6 * old.listed) (6 * old.listed + 6) ≡ map (digits_value 10) terms
 
