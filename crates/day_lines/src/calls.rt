@@ -1,8 +1,8 @@
 // The lines, a function each.
 ghost use Rattle.std.specs.Prelude.{◌≡◌, length};
-ghost use Rattle.rule.specs.Layout.{open_of};
 ghost use Rattle.words.specs.Lines.{words_left};
-ghost use Rattle.day_lines.specs.Answered.{Answers, UnreadKeeps, Trades, Notices};
+ghost use Rattle.day_words.specs.Named.{codes_in, codes_of_book};
+ghost use Rattle.day_lines.specs.Answered.{Answers, UnreadKeeps, Opens, Trades, Notices};
 
 use crate::failure::Failure;
 use day_words::{Codes, codes_of, entries, next_basket};
@@ -15,11 +15,11 @@ use words::Line;
 const ROOM: usize = 64;
 
 // "open": makes the opening call.
-pub fn open<'a>(rt: &impl Print, data: &OpeningData, book: &mut [u64], line: Line<'a>) -> Result<(), Failure<'a>>
-    ensures { UnreadKeeps result book.old book.new }
+pub fn open<'a>(rt: &impl Print, gathered: &OpeningData, book: &mut [u64], line: Line<'a>) -> Result<(), Failure<'a>>
+    ensures { Answers result (Opens gathered.now (words_left line.entry) book.old book.new) book.old book.new }
 {
     line.end()?;
-    data.open(book)?;
+    gathered.open(book)?;
     println!(rt; "opened")?;
     Ok(())
 }
@@ -40,6 +40,7 @@ pub fn trade<'a>(rt: &impl Print, book: &mut [u64], mut line: Line<'a>) -> Resul
 
 fn codes_in_book(book: &[u64]) -> [u8; day_words::CODES]
     requires { length book.now ≡ 3832 }
+    ensures { codes_in result ≡ codes_of_book book.now }
 {
     let cells = &book[layout::CODES..layout::TERMS];
     codes_of(cells)

@@ -1,5 +1,5 @@
 // The codes of a day's issues.
-ghost use Rattle.std.specs.Prelude.{◌≡◌, ◌↔◌, ◌%◌, ◌<◌, length, slice_index, EachIndex, IfOk, IsTrue, OnErr};
+ghost use Rattle.std.specs.Prelude.{◌≡◌, ◌↔◌, ◌%◌, ◌<◌, length, map, IfOk, IsTrue, OnErr};
 ghost use Rattle.words.specs.Lines.{IsNumber, Takes, words_left};
 ghost use Rattle.day_words.specs.Named.{IsCode, IsFirstPlace, Names, codes_in};
 
@@ -27,7 +27,7 @@ fn is_code(word: &[u8]) -> bool
 // The codes that stand in a book, a byte to a cell; zeros after those of the day.
 pub fn codes_of(cells: &[u64]) -> [u8; CODES]
     requires { length cells.now ≡ 384 }
-    ensures { EachIndex result (λ k. slice_index result k ≡ slice_index cells.now k % 256) }
+    ensures { result ≡ map (λ cell. cell % 256) cells.now }
 {
     let mut bytes = [0; CODES];
     for (i, cell) in cells.iter().enumerate() {

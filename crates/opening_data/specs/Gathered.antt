@@ -1,6 +1,8 @@
 -- What a line that is read gathers. Assumes nothing.
 use Rattle.std.specs.Prelude.{◌≡◌, ◌+◌, ◌*◌, ◌<◌, ℕ, List, [], ◌∷◌, ◌-◌, length, map, min, replicate, slice_index, slice_range, slice_set}
 use Rattle.std.specs.Str.Parse.{digits_value}
+use Rattle.rule.specs.Calls.{Reply}
+use Rattle.rule.specs.Layout.{open_of}
 use Rattle.words.specs.Lines.{IsNumber}
 use Rattle.day_words.specs.Named.{IsLetter, Names, codes_in}
 use Rattle.opening_data.specs.declared.OpeningData.{OpeningData}
@@ -20,6 +22,14 @@ empty n m = record {
 -- the codes of the issues that are listed
 abbrev pub listed_codes : OpeningData → List (List ℕ)
 listed_codes gathered = codes_in (slice_range gathered.codes 0 (12 * min gathered.listed 32))
+
+-- the opening call on what is gathered. Sizes for which there is no room are refused, whatever is lent with them
+abbrev pub opened : OpeningData → List ℕ → Reply × List ℕ
+opened gathered book =
+    let n = min gathered.participants 12 in
+    let m = min gathered.issues 32 in
+    let listed = min gathered.listed 32 in
+    open_of gathered.participants gathered.issues (slice_range gathered.codes 0 (12 * listed)) (slice_range gathered.terms 0 (6 * listed)) (slice_range gathered.receipts 0 (n * m)) (slice_range gathered.pairs 0 (7 * n * n)) book
 
 -- "day PARTICIPANTS ISSUES"
 pub record DayLine (words : List (List ℕ)) (old new : OpeningData) : Type 0 where

@@ -2,10 +2,9 @@
 #![tactic(auto)]
 
 ghost use Rattle.std.specs.Prelude.{◌≡◌, ◌+◌, ◌*◌, ◌<◌, ◌≤◌, min, length, slice_range, OnErr, OnOk};
-ghost use Rattle.rule.specs.Layout.{open_of};
 ghost use Rattle.reply.specs.Answers.{told};
 ghost use Rattle.words.specs.Lines.{words_left};
-ghost use Rattle.opening_data.specs.Gathered.{empty, DayLine, IssueLine, ReceiptLine, PairLine};
+ghost use Rattle.opening_data.specs.Gathered.{empty, opened, DayLine, IssueLine, ReceiptLine, PairLine};
 
 use day_words::{CODES, Codes, next_basket_of_day};
 use layout::{BASKETS, CODE, MOST_ISSUES, MOST_PARTICIPANTS, SQUARE, TERM};
@@ -157,9 +156,7 @@ impl OpeningData {
 
     // Makes the call. Sizes for which there is no room are refused, whatever is lent with them.
     pub fn open(&self, book: &mut [u64]) -> Result<(), Refusal>
-        ensures { let n = min self.now.participants 12 in let m = min self.now.issues 32 in let listed = min self.now.listed 32 in
-            (told result, book.new) ≡ open_of self.now.participants self.now.issues (slice_range self.now.codes 0 (12 * listed)) (slice_range self.now.terms 0 (6 * listed))
-                (slice_range self.now.receipts 0 (n * m)) (slice_range self.now.pairs 0 (7 * n * n)) book.old }
+        ensures { (told result, book.new) ≡ opened self.now book.old }
     {
         let n = self.participants.min(MOST_PARTICIPANTS as u64) as usize;
         let m = self.issues.min(MOST_ISSUES as u64) as usize;
