@@ -14,7 +14,12 @@ pub struct Day {
 }
 
 // "`refused NUMBER: WORDS`"; "`error LINE: CALL: WORDS`"
-fn write_failure(rt: &impl Print, number: u64, call: &[u8], failure: Failure<'_>) -> io::Result<()> {
+fn write_failure(
+    rt: &impl Print,
+    number: u64,
+    call: &[u8],
+    failure: Failure<'_>,
+) -> io::Result<()> {
     match failure {
         Failure::Unread(unread) => {
             let call = call.escape_ascii();
@@ -34,7 +39,12 @@ impl Day {
     }
 
     // The line of a first word; none, where it is no such word.
-    fn call<'a, R: Print + AllocGlobal>(&mut self, rt: &R, first: &[u8], line: Line<'a>) -> Option<Result<(), Failure<'a>>> {
+    fn call<'a, R: Print + AllocGlobal>(
+        &mut self,
+        rt: &R,
+        first: &[u8],
+        line: Line<'a>,
+    ) -> Option<Result<(), Failure<'a>>> {
         let answer = match first {
             b"day" => self.data.day(line).map_err(Failure::Unread),
             b"issue" => self.data.issue(line).map_err(Failure::Unread),
@@ -52,7 +62,12 @@ impl Day {
     }
 
     // "one call to a line"; "`#` starts a comment"; "empty lines count for nothing"
-    pub fn answer<R: Print + AllocGlobal>(&mut self, rt: &R, number: u64, line: &[u8]) -> io::Result<()> {
+    pub fn answer<R: Print + AllocGlobal>(
+        &mut self,
+        rt: &R,
+        number: u64,
+        line: &[u8],
+    ) -> io::Result<()> {
         let text = line.split(|byte| *byte == b'#').next().unwrap_or(line);
         let Ok(words) = words::split(rt.alloc(), text, b" \t\r") else {
             let unread = Unread::NoMemory;

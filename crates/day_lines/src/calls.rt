@@ -15,7 +15,12 @@ use words::Line;
 const ROOM: usize = 64;
 
 // "open": makes the opening call.
-pub fn open<'a>(rt: &impl Print, gathered: &OpeningData, book: &mut [u64], line: Line<'a>) -> Result<(), Failure<'a>>
+pub fn open<'a>(
+    rt: &impl Print,
+    gathered: &OpeningData,
+    book: &mut [u64],
+    line: Line<'a>,
+) -> Result<(), Failure<'a>>
     ensures { Answers result (Opens gathered.now (words_left line.entry) book.old book.new) book.old book.new }
 {
     line.end()?;
@@ -47,7 +52,11 @@ fn codes_in_book(book: &[u64]) -> [u8; day_words::CODES]
 }
 
 // "notice PARTICIPANT ISSUE=LOTS ..": a code that the day does not have is passed on as 32, and gets refusal 12.
-pub fn notice<'a, R: Print + AllocGlobal>(rt: &R, book: &mut [u64], mut line: Line<'a>) -> Result<(), Failure<'a>>
+pub fn notice<'a, R: Print + AllocGlobal>(
+    rt: &R,
+    book: &mut [u64],
+    mut line: Line<'a>,
+) -> Result<(), Failure<'a>>
     requires { length book.old ≡ 3832 }
     ensures { Answers result (Notices (words_left line.entry) book.old book.new) book.old book.new }
 {
@@ -62,7 +71,11 @@ pub fn notice<'a, R: Print + AllocGlobal>(rt: &R, book: &mut [u64], mut line: Li
 }
 
 // "run PARTICIPANT ..": the draw.
-pub fn run<'a, R: Print + AllocGlobal>(rt: &R, book: &mut [u64], line: Line<'a>) -> Result<(), Failure<'a>>
+pub fn run<'a, R: Print + AllocGlobal>(
+    rt: &R,
+    book: &mut [u64],
+    line: Line<'a>,
+) -> Result<(), Failure<'a>>
     requires { length book.old ≡ 3832 }
     ensures { UnreadKeeps result book.old book.new }
 {

@@ -87,6 +87,7 @@ impl<'a> Codes<'a> {
     pub fn text(&self, issue: usize) -> &'a str {
         let (codes, _) = self.bytes.as_chunks::<CODE>();
         let code = codes.get(issue);
-        code.and_then(|code| str::from_utf8(code).ok()).unwrap_or("")
+        code.and_then(|code| str::from_utf8(code).ok())
+            .unwrap_or("")
     }
 }

@@ -24,7 +24,11 @@ pub fn read_entry<'w>(codes: &Codes<'_>, word: &'w [u8]) -> Result<(u64, u64), U
 }
 
 // "ISSUE=LOTS ..": the issues and the lots of all words that are left.
-pub fn entries<'w>(alloc: Global, codes: &Codes<'_>, line: &Line<'w>) -> Result<(Vec<u64>, Vec<u64>), Unread<'w>>
+pub fn entries<'w>(
+    alloc: Global,
+    codes: &Codes<'_>,
+    line: &Line<'w>,
+) -> Result<(Vec<u64>, Vec<u64>), Unread<'w>>
     ensures { IfOk result (λ lists. AreEntries (codes_in codes.now.bytes.now) (words_left line.now) lists.0.items lists.1.items) }
 {
     let mut issues = Vec::new(alloc);

@@ -34,7 +34,13 @@ pub fn lines(rt: &impl Print, codes: &Codes<'_>, rows: &[[u64; 3]]) -> io::Resul
 }
 
 // The lots that are not 0, by participant, then issue. Rows have a width, and the lots of a tally a sign.
-pub fn holdings(rt: &impl Print, kind: &str, codes: &Codes<'_>, cells: &[u64], width: usize) -> io::Result<()>
+pub fn holdings(
+    rt: &impl Print,
+    kind: &str,
+    codes: &Codes<'_>,
+    cells: &[u64],
+    width: usize,
+) -> io::Result<()>
     requires { 0 < width }
 {
     for (participant, row) in cells.chunks(width).enumerate() {

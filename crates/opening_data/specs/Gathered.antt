@@ -16,7 +16,7 @@ empty n m = record {
   codes = replicate 384 0;
   terms = replicate 192 0;
   receipts = replicate 384 0;
-  pairs = replicate 1008 0
+  pairs = replicate 1008 0;
 }
 
 -- the codes of the issues that are listed

@@ -122,7 +122,9 @@ impl OpeningData {
         ensures unread { OnErr result (self.new ≡ self.old) }
     {
         let participant = line.below("participant", self.participants)?;
-        let issue = self.listed_codes().next_issue_below(&mut line, self.issues)?;
+        let issue = self
+            .listed_codes()
+            .next_issue_below(&mut line, self.issues)?;
         let lots = line.number("lots")?;
         line.end()?;
         if participant >= MOST_PARTICIPANTS as u64 {
@@ -149,7 +151,12 @@ impl OpeningData {
         if participants > MOST_PARTICIPANTS as u64 {
             return Err(Unread::NoRoom(MOST_PARTICIPANTS, "participants"));
         }
-        let place = pair_place(participants as usize, basket as usize, deliverer as usize, receiver as usize);
+        let place = pair_place(
+            participants as usize,
+            basket as usize,
+            deliverer as usize,
+            receiver as usize,
+        );
         self.pairs[place] = 1;
         Ok(())
     }
@@ -165,6 +172,14 @@ impl OpeningData {
         let terms = &self.terms[..TERM * listed];
         let receipts = &self.receipts[..n * m];
         let pairs = &self.pairs[..BASKETS * n * n];
-        allocation::open(self.participants, self.issues, codes, terms, receipts, pairs, book)
+        allocation::open(
+            self.participants,
+            self.issues,
+            codes,
+            terms,
+            receipts,
+            pairs,
+            book,
+        )
     }
 }

@@ -10,9 +10,8 @@ mod line;
 mod unread;
 
 pub use line::{Line, read_number};
-pub use unread::{Found, Unread};
-
 use std::alloc::{AllocError, Global};
+pub use unread::{Found, Unread};
 
 // The words of a text, which blanks stand between.
 pub fn split<'a>(alloc: Global, text: &'a [u8], blanks: &[u8]) -> Result<Vec<&'a [u8]>, AllocError>

@@ -1,10 +1,9 @@
 -- One word more, with its issue and lots.
-use Rattle.std.proofs.Common.{◌≡◌, ℕ, ◌+◌, ◌<◌, List, [], ◌∷◌, ◌++◌, map, take, length, get_or, arith, length-append, below_more, subst, sym, ◌∙◌, ap}
+use Rattle.std.proofs.Common.{◌≡◌, ℕ, ◌<◌, List, [], ◌∷◌, ◌++◌, length, get_or, arith, length-append, below_more}
 use Rattle.std.proofs.Math.ListN.{get_or-append}
 use Rattle.std.proofs.Math.Seq.{get_or-append_seam}
 use Rattle.std.proofs.lemmas.List.{take_more, map-append}
-use Rattle.std.specs.Borrow.{Bor}
-use Rattle.day_words.specs.Named.{AreEntries, IsEntry, codes_in}
+use Rattle.day_words.specs.Named.{AreEntries, IsEntry}
 use Rattle.day_words.proofs.entry.entries.Goals as goal
 
 entries_more : (codes words : List (List ℕ)) (issues lots : List ℕ) (word : List ℕ) (issue count : ℕ)
@@ -19,11 +18,11 @@ entries_more codes words issues lots word issue count so_far entry =
       lots_len = simp length-append (omega arith);
       each = λ k h. below_more P (length words)
           (λ j lt.
-            let of_issues : j < length issues = omega arith in
-            let of_lots : j < length lots = omega arith in
-            rw (get_or-append words (word ∷ []) [] j lt, get_or-append issues (issue ∷ []) 0 j of_issues, get_or-append lots (count ∷ []) 0 j of_lots) (so_far.each j lt))
+          let of_issues : j < length issues = omega arith in
+          let of_lots : j < length lots = omega arith in
+          rw (get_or-append words (word ∷ []) [] j lt, get_or-append issues (issue ∷ []) 0 j of_issues, get_or-append lots (count ∷ []) 0 j of_lots) (so_far.each j lt))
           (rw (get_or-append_seam words word [] [], one_issue, one_count) entry)
-          k (omega (arith, length-append words (word ∷ [])))
+          k (omega (arith, length-append words (word ∷ [])));
     }
 
 pub loop-word-preserved : goal.loop-word-preserved

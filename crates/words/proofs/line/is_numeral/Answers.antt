@@ -1,5 +1,5 @@
 -- What is told of each byte is told of the digits as `parse` reads them.
-use Rattle.std.proofs.Common.{rules, ◌≡◌}
+use Rattle.std.proofs.Common.{rules}
 use Rattle.std.proofs.lemmas.Str.Parse.{numerals_by_value, tells_by_index}
 use Rattle.words.proofs.line.is_numeral.Goals as goal
 
