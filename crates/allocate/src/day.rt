@@ -1,172 +1,88 @@
-// A day: what its opening is given, and the book that its calls are made on.
-use crate::answers::{Failure, Unread};
-use crate::fields::{Basket, Codes, number, numbers};
-use crate::given::{Given, PAIRS, RECEIPTS};
-use crate::{Book, listing};
-use layout::{MOST_ISSUES, MOST_PARTICIPANTS};
-use quantities::Yen;
-use std::alloc::Global;
+// A day: what its opening is given, the book that its calls are made on, and the line that each first word is.
+use day_lines::Failure;
+use opening_data::OpeningData;
+use std::io;
+use words::{Found, Line, Unread};
 
-// the entries of a notice or the participants of a draw that there is room for, more than a day has
-const ROOM: usize = 64;
+// the first words that there are
+const CALLS: &str = "day, issue, receipt, pair, open, trade, notice, run, close or show";
 
 #[derive(Drop)]
 pub struct Day {
-    given: Given,
-    book: Book,
+    data: OpeningData,
+    book: [u64; layout::LENGTH],
 }
 
-// No words come after the first.
-fn alone(words: &[&[u8]]) -> Result<(), Unread> {
-    if !words.is_empty() {
-        return Err(Unread::WrongWord);
+// "`refused NUMBER: WORDS`"; "`error LINE: CALL: WORDS`"
+fn write_failure(
+    rt: &impl Print,
+    number: u64,
+    call: &[u8],
+    failure: Failure<'_>,
+) -> io::Result<()> {
+    match failure {
+        Failure::Unread(unread) => {
+            let call = call.escape_ascii();
+            println!(rt; "error {number}: {call}: {unread}")
+        }
+        Failure::Refused(refusal) => println!(rt; "refused {}: {refusal}", u64::from(refusal)),
+        Failure::Unwritten => Ok(()),
     }
-    Ok(())
 }
 
 impl Day {
-    pub fn new(alloc: Global) -> Day {
+    pub fn new() -> Day {
         Day {
-            given: Given::new(alloc, 0, 0),
+            data: OpeningData::new(0, 0),
             book: [0; layout::LENGTH],
         }
     }
 
+    // The line of a first word; none, where it is no such word.
+    fn call<'a, R: Print + AllocGlobal>(
+        &mut self,
+        rt: &R,
+        first: &[u8],
+        line: Line<'a>,
+    ) -> Option<Result<(), Failure<'a>>> {
+        let answer = match first {
+            b"day" => self.data.day(line).map_err(Failure::Unread),
+            b"issue" => self.data.issue(line).map_err(Failure::Unread),
+            b"receipt" => self.data.receipt(line).map_err(Failure::Unread),
+            b"pair" => self.data.pair(line).map_err(Failure::Unread),
+            b"open" => day_lines::open(rt, &self.data, &mut self.book, line),
+            b"trade" => day_lines::trade(rt, &mut self.book, line),
+            b"notice" => day_lines::notice(rt, &mut self.book, line),
+            b"run" => day_lines::run(rt, &mut self.book, line),
+            b"close" => day_lines::close(rt, &self.book, line),
+            b"show" => day_lines::show(rt, &self.book, line),
+            _ => return None,
+        };
+        Some(answer)
+    }
+
     // "one call to a line"; "`#` starts a comment"; "empty lines count for nothing"
-    pub fn answer(&mut self, rt: &HostRuntime, line: &[u8]) -> Result<(), Failure> {
-        let alloc = rt.alloc();
+    pub fn answer<R: Print + AllocGlobal>(
+        &mut self,
+        rt: &R,
+        number: u64,
+        line: &[u8],
+    ) -> io::Result<()> {
         let text = line.split(|byte| *byte == b'#').next().unwrap_or(line);
-        let words = words::split(alloc, text, b" \t\r")?;
+        let Ok(words) = words::split(rt.alloc(), text, b" \t\r") else {
+            let unread = Unread::NoMemory;
+            return println!(rt; "error {number}: {unread}");
+        };
         let Some((first, rest)) = words.as_slice().split_first() else {
             return Ok(());
         };
-        match *first {
-            b"day" => self.given.day(alloc, rest)?,
-            b"issue" => self.given.issue(alloc, rest)?,
-            b"receipt" => self.given.receipt(rest)?,
-            b"pair" => self.given.pair(rest)?,
-            b"open" => self.open(rt, rest)?,
-            b"trade" => self.trade(rt, rest)?,
-            b"notice" => self.notice(rt, rest)?,
-            b"run" => self.run(rt, rest)?,
-            b"close" => self.close(rt, rest)?,
-            b"show" => self.show(rt, rest)?,
-            _ => return Err(Failure::Unread(Unread::UnknownWord)),
+        match self.call(rt, *first, Line::new(rest)) {
+            Some(Ok(())) => Ok(()),
+            Some(Err(failure)) => write_failure(rt, number, *first, failure),
+            None => {
+                let unread = Unread::Expected(CALLS, Found::Word(*first));
+                println!(rt; "error {number}: {unread}")
+            }
         }
-        Ok(())
-    }
-
-    fn open(&mut self, rt: &HostRuntime, words: &[&[u8]]) -> Result<(), Failure> {
-        alone(words)?;
-        self.given.open(rt.alloc(), &mut self.book)?;
-        println!(rt; "opened")?;
-        Ok(())
-    }
-
-    // "trade SELLER BUYER BASKET YEN"
-    fn trade(&mut self, rt: &HostRuntime, words: &[&[u8]]) -> Result<(), Failure> {
-        let [seller, buyer, basket, yen] = words else {
-            return Err(Failure::Unread(Unread::WrongWord));
-        };
-        let seller = number(seller)?;
-        let buyer = number(buyer)?;
-        let Basket(basket) = Basket::try_from(*basket)?;
-        let amount = Yen(number(yen)?);
-        allocation::trade(&mut self.book, seller, buyer, basket, amount)?;
-        println!(rt; "traded")?;
-        Ok(())
-    }
-
-    // "ISSUE=LOTS ..": the issues and the lots.
-    fn entries(&self, alloc: Global, words: &[&[u8]]) -> Result<(Vec<u64>, Vec<u64>), Unread> {
-        let codes = Codes::of_book(alloc, &self.book)?;
-        let mut issues = Vec::new(alloc);
-        let mut lots = Vec::new(alloc);
-        for word in words {
-            let (issue, count) = words::split_once(word, b'=').ok_or(Unread::WrongWord)?;
-            issues.push(codes.issue(issue)?)?;
-            lots.push(number(count)?)?;
-        }
-        Ok((issues, lots))
-    }
-
-    // "notice PARTICIPANT ISSUE=LOTS ..": a code that the day does not have is passed on as 32, and gets refusal 12.
-    fn notice(&mut self, rt: &HostRuntime, words: &[&[u8]]) -> Result<(), Failure> {
-        let [participant, entries @ ..] = words else {
-            return Err(Failure::Unread(Unread::WrongWord));
-        };
-        let participant = number(participant)?;
-        if entries.len() > ROOM {
-            return Err(Failure::Unread(Unread::NoRoom));
-        }
-        let (issues, lots) = self.entries(rt.alloc(), entries)?;
-        allocation::notice(
-            &mut self.book,
-            participant,
-            issues.as_slice(),
-            lots.as_slice(),
-        )?;
-        println!(rt; "noted")?;
-        Ok(())
-    }
-
-    // "run PARTICIPANT ..": the draw.
-    fn run(&mut self, rt: &HostRuntime, words: &[&[u8]]) -> Result<(), Failure> {
-        if words.len() > ROOM {
-            return Err(Failure::Unread(Unread::NoRoom));
-        }
-        let draw = numbers(rt.alloc(), words)?;
-        let codes = Codes::of_book(rt.alloc(), &self.book)?;
-        // the call writes into memory that it is lent, and says how much of it counts
-        let mut matches = [0u64; 539];
-        let mut lines = [0u64; 7392];
-        let counts = allocation::run(&mut self.book, draw.as_slice(), &mut matches, &mut lines)?;
-        println!(rt; "ran {} {}", counts.matches, counts.lines)?;
-        let matches = matches.as_chunks().0;
-        let lines = lines.as_chunks().0;
-        listing::matches(rt, &codes, &matches[..matches.len().min(counts.matches)])?;
-        listing::lines(rt, &codes, &lines[..lines.len().min(counts.lines)])?;
-        Ok(())
-    }
-
-    // What tomorrow's opening reads.
-    fn close(&self, rt: &HostRuntime, words: &[&[u8]]) -> Result<(), Failure> {
-        alone(words)?;
-        let codes = Codes::of_book(rt.alloc(), &self.book)?;
-        // the call writes into memory that it is lent
-        let mut receipts = [0u64; RECEIPTS];
-        let mut pairs = [0u64; PAIRS];
-        allocation::close(&self.book, &mut receipts, &mut pairs)?;
-        println!(rt; "closed")?;
-        let participants = self.book[layout::PARTICIPANTS] as usize;
-        let issues = self.book[layout::ISSUES] as usize;
-        // a day that is closed has both
-        if participants == 0 || issues == 0 {
-            return Ok(());
-        }
-        listing::holdings(rt, "receipt", &codes, &receipts, issues)?;
-        listing::pairs(rt, "pair", &pairs, participants)?;
-        Ok(())
-    }
-
-    // "what stands in the book". Places beyond the day's sizes are 0, so whole tables are gone through.
-    fn show(&self, rt: &HostRuntime, words: &[&[u8]]) -> Result<(), Failure> {
-        alone(words)?;
-        let book = &self.book;
-        if book[layout::PARTICIPANTS] == 0 {
-            println!(rt; "no day")?;
-            return Ok(());
-        }
-        let codes = Codes::of_book(rt.alloc(), book)?;
-        let notices = &book[layout::NOTICES..layout::TODAY];
-        let today = &book[layout::TODAY..layout::TALLY];
-        let tally = &book[layout::TALLY..layout::LENGTH];
-        println!(rt; "runs {}", book[layout::RUNS])?;
-        println!(rt; "trades {}", book[layout::TRADES])?;
-        listing::positions(rt, book)?;
-        listing::holdings(rt, "notified", &codes, notices, MOST_ISSUES)?;
-        listing::holdings(rt, "tally", &codes, tally, MOST_ISSUES)?;
-        listing::pairs(rt, "paired", today, MOST_PARTICIPANTS)?;
-        Ok(())
     }
 }

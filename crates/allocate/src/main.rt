@@ -2,22 +2,17 @@
 // file has and what is written for it is in docs/DAYFILE.md, which the comments quote.
 #![tactic(auto)]
 
-mod answers;
 mod day;
-mod fields;
-mod given;
-mod listing;
+mod help;
 mod sample;
 
-use answers::{Failure, Unread};
 use day::Day;
 use std::env::FillError;
 use std::fs::File;
 use std::io;
 use std::io::{BufRead, BufReader, Read, Write};
 use std::rt::Env;
-
-type Book = [u64; layout::LENGTH];
+use words::Unread;
 
 // the bytes that a line has room for
 const ROOM: usize = 4096;
@@ -38,31 +33,20 @@ fn read_line<S: BufRead>(source: &mut S, line: &mut Vec<u8>) -> bool {
     matches!(read, Ok(1..))
 }
 
-// "A line that cannot be read .. is answered `error LINE: WORDS`"
-fn write_answer(rt: &HostRuntime, line: u64, answer: Result<(), Failure>) -> io::Result<()> {
-    match answer {
-        Ok(()) | Err(Failure::Unwritten) => Ok(()),
-        Err(Failure::Refused(refusal)) => {
-            println!(rt; "refused {}: {refusal}", u64::from(refusal))
-        }
-        Err(Failure::Unread(unread)) => println!(rt; "error {line}: {unread}"),
-    }
-}
-
 // A day from a book of zeros: the lines of a source, to its end or to a read that fails.
 fn run_day<S: BufRead + Drop>(rt: &HostRuntime, mut source: S) {
-    let mut day = Day::new(rt.alloc());
+    let mut day = Day::new();
     let mut line = Vec::new(rt.alloc());
     // nothing says that a source ends: more turns than any takes
     for number in 1..u64::MAX {
         let more = read_line(&mut source, &mut line);
-        let answer = if line.len() > ROOM {
-            Err(Failure::Unread(Unread::NoRoom))
-        } else {
-            day.answer(rt, line.as_slice())
-        };
         // what cannot be written is lost, and the next line is answered all the same
-        let _ = write_answer(rt, number, answer);
+        let _ = if line.len() > ROOM {
+            let unread = Unread::NoRoom(ROOM, "bytes");
+            println!(rt; "error {number}: {unread}")
+        } else {
+            day.answer(rt, number, line.as_slice())
+        };
         if !more {
             return;
         }
@@ -75,11 +59,14 @@ fn run_file(rt: &HostRuntime, path: &str) -> io::Result<()> {
     Ok(())
 }
 
-// The file of a name, which is UTF-8 where it can be opened.
-fn run_named(rt: &HostRuntime, name: &[u8]) -> io::Result<()> {
+// What an argument asks for. A file's name is UTF-8 where it can be opened.
+fn run_argument(rt: &HostRuntime, name: &[u8]) -> io::Result<()> {
     if name == b"-".as_slice() {
         run_day(rt, BufReader::new(rt.alloc(), rt.stdin())?);
         return Ok(());
+    }
+    if name == b"--help".as_slice() {
+        return print!(rt; "{}", help::HELP);
     }
     match str::from_utf8(name) {
         Ok(path) => match run_file(rt, path) {
@@ -98,8 +85,8 @@ fn main(rt: HostRuntime) {
     // place by place: `env::args` fails where a name is not UTF-8
     for i in 1..usize::MAX {
         let _ = match rt.arg(i, &mut name) {
-            Ok(n) => run_named(&rt, &name[..n]),
-            Err(FillError::TooLong) => run_named(&rt, b""),
+            Ok(n) => run_argument(&rt, &name[..n]),
+            Err(FillError::TooLong) => run_argument(&rt, b""),
             Err(FillError::NotPresent) => {
                 if i == 1 {
                     run_day(&rt, sample::DAY.as_bytes());

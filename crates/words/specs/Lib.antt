@@ -1,2 +1,3 @@
--- The definition that a contract cites.
+-- The definitions that contracts cite.
+pub mod Lines
 pub mod Words

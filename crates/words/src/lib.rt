@@ -6,7 +6,12 @@ ghost use Rattle.std.specs.List.{All};
 ghost use Rattle.std.specs.Str.Parse.{IsNumeral, digits_value};
 ghost use Rattle.words.specs.Words.{words_between};
 
+mod line;
+mod unread;
+
+pub use line::{Line, read_number};
 use std::alloc::{AllocError, Global};
+pub use unread::{Found, Unread};
 
 // The words of a text, which blanks stand between.
 pub fn split<'a>(alloc: Global, text: &'a [u8], blanks: &[u8]) -> Result<Vec<&'a [u8]>, AllocError>

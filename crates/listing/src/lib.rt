@@ -1,13 +1,14 @@
-// The records under an answer, a line each.
-ghost use Rattle.std.specs.Prelude.{◌<◌};
+// The records under an answer, a line each. The comments quote docs/DAYFILE.md.
+#![tactic(auto)]
 
-use crate::Book;
-use crate::fields::{Basket, Codes};
+ghost use Rattle.std.specs.Prelude.{◌<◌, ◌≤◌, length};
+
+use day_words::{Basket, Codes};
 use layout::{BASKETS, MOST_PARTICIPANTS, POSITIONS};
 use std::io;
 
 // "match NUMBER BASKET DELIVERER RECEIVER MATCHED COVERED FORCED-CODE FORCED-LOTS (- 0 where nothing was forced)"
-pub fn matches(rt: &HostRuntime, codes: &Codes, rows: &[[u64; 7]]) -> io::Result<()> {
+pub fn matches(rt: &impl Print, codes: &Codes<'_>, rows: &[[u64; 7]]) -> io::Result<()> {
     for (n, row) in rows.iter().enumerate() {
         let [basket, deliverer, receiver, matched, covered, forced, lots] = *row;
         let basket = Basket(basket);
@@ -24,7 +25,7 @@ pub fn matches(rt: &HostRuntime, codes: &Codes, rows: &[[u64; 7]]) -> io::Result
 }
 
 // "line MATCH CODE LOTS"
-pub fn lines(rt: &HostRuntime, codes: &Codes, rows: &[[u64; 3]]) -> io::Result<()> {
+pub fn lines(rt: &impl Print, codes: &Codes<'_>, rows: &[[u64; 3]]) -> io::Result<()> {
     for row in rows {
         let [number, issue, lots] = *row;
         println!(rt; "line {number} {} {lots}", codes.text(issue as usize))?;
@@ -34,9 +35,9 @@ pub fn lines(rt: &HostRuntime, codes: &Codes, rows: &[[u64; 3]]) -> io::Result<(
 
 // The lots that are not 0, by participant, then issue. Rows have a width, and the lots of a tally a sign.
 pub fn holdings(
-    rt: &HostRuntime,
+    rt: &impl Print,
     kind: &str,
-    codes: &Codes,
+    codes: &Codes<'_>,
     cells: &[u64],
     width: usize,
 ) -> io::Result<()>
@@ -54,7 +55,7 @@ pub fn holdings(
 }
 
 // The marks that are not 0, by basket, deliverer, receiver. Squares have a width.
-pub fn pairs(rt: &HostRuntime, kind: &str, cells: &[u64], width: usize) -> io::Result<()>
+pub fn pairs(rt: &impl Print, kind: &str, cells: &[u64], width: usize) -> io::Result<()>
     requires { 0 < width }
 {
     for (row, marks) in cells.chunks(width).enumerate() {
@@ -70,7 +71,9 @@ pub fn pairs(rt: &HostRuntime, kind: &str, cells: &[u64], width: usize) -> io::R
 }
 
 // The positions that are not 0, with their sign, by participant, then basket; in the book they stand by basket.
-pub fn positions(rt: &HostRuntime, book: &Book) -> io::Result<()> {
+pub fn positions(rt: &impl Print, book: &[u64]) -> io::Result<()>
+    requires { 2056 ≤ length book.now }
+{
     for participant in 0..MOST_PARTICIPANTS {
         for basket in 0..BASKETS {
             let yen = book[POSITIONS + MOST_PARTICIPANTS * basket + participant];

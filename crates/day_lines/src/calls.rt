@@ -1,0 +1,142 @@
+// The lines, a function each.
+ghost use Rattle.std.specs.Prelude.{◌≡◌, length};
+ghost use Rattle.words.specs.Lines.{words_left};
+ghost use Rattle.day_words.specs.Named.{codes_in, codes_of_book};
+ghost use Rattle.day_lines.specs.Answered.{Answers, UnreadKeeps, Opens, Trades, Notices};
+
+use crate::failure::Failure;
+use day_words::{Codes, codes_of, entries, next_basket};
+use layout::{MOST_ISSUES, MOST_PARTICIPANTS};
+use opening_data::OpeningData;
+use quantities::Yen;
+use words::Line;
+
+// the entries of a notice or the participants of a draw that there is room for, more than a day has
+const ROOM: usize = 64;
+
+// "open": makes the opening call.
+pub fn open<'a>(
+    rt: &impl Print,
+    gathered: &OpeningData,
+    book: &mut [u64],
+    line: Line<'a>,
+) -> Result<(), Failure<'a>>
+    ensures { Answers result (Opens gathered.now (words_left line.entry) book.old book.new) book.old book.new }
+{
+    line.end()?;
+    gathered.open(book)?;
+    println!(rt; "opened")?;
+    Ok(())
+}
+
+// "trade SELLER BUYER BASKET YEN"
+pub fn trade<'a>(rt: &impl Print, book: &mut [u64], mut line: Line<'a>) -> Result<(), Failure<'a>>
+    ensures { Answers result (Trades (words_left line.entry) book.old book.new) book.old book.new }
+{
+    let seller = line.number("seller")?;
+    let buyer = line.number("buyer")?;
+    let basket = next_basket(&mut line)?;
+    let yen = Yen(line.number("yen")?);
+    line.end()?;
+    allocation::trade(book, seller, buyer, basket, yen)?;
+    println!(rt; "traded")?;
+    Ok(())
+}
+
+fn codes_in_book(book: &[u64]) -> [u8; day_words::CODES]
+    requires { length book.now ≡ 3832 }
+    ensures { codes_in result ≡ codes_of_book book.now }
+{
+    let cells = &book[layout::CODES..layout::TERMS];
+    codes_of(cells)
+}
+
+// "notice PARTICIPANT ISSUE=LOTS ..": a code that the day does not have is passed on as 32, and gets refusal 12.
+pub fn notice<'a, R: Print + AllocGlobal>(
+    rt: &R,
+    book: &mut [u64],
+    mut line: Line<'a>,
+) -> Result<(), Failure<'a>>
+    requires { length book.old ≡ 3832 }
+    ensures { Answers result (Notices (words_left line.entry) book.old book.new) book.old book.new }
+{
+    let participant = line.number("participant")?;
+    line.at_most(ROOM, "entries")?;
+    let codes = codes_in_book(book);
+    let codes = Codes { bytes: &codes };
+    let (issues, lots) = entries(rt.alloc(), &codes, &line)?;
+    allocation::notice(book, participant, issues.as_slice(), lots.as_slice())?;
+    println!(rt; "noted")?;
+    Ok(())
+}
+
+// "run PARTICIPANT ..": the draw.
+pub fn run<'a, R: Print + AllocGlobal>(
+    rt: &R,
+    book: &mut [u64],
+    line: Line<'a>,
+) -> Result<(), Failure<'a>>
+    requires { length book.old ≡ 3832 }
+    ensures { UnreadKeeps result book.old book.new }
+{
+    line.at_most(ROOM, "participants")?;
+    let draw = line.numbers(rt.alloc(), "participant")?;
+    // the call writes into memory that it is lent, and says how much of it counts
+    let mut matches = [0u64; 539];
+    let mut lines = [0u64; 7392];
+    let counts = allocation::run(book, draw.as_slice(), &mut matches, &mut lines)?;
+    println!(rt; "ran {} {}", counts.matches, counts.lines)?;
+    let codes = codes_in_book(book);
+    let codes = Codes { bytes: &codes };
+    let matches = matches.as_chunks().0;
+    let lines = lines.as_chunks().0;
+    listing::matches(rt, &codes, &matches[..matches.len().min(counts.matches)])?;
+    listing::lines(rt, &codes, &lines[..lines.len().min(counts.lines)])?;
+    Ok(())
+}
+
+// "close": what tomorrow's opening reads.
+pub fn close<'a>(rt: &impl Print, book: &[u64], line: Line<'a>) -> Result<(), Failure<'a>>
+    requires { length book.now ≡ 3832 }
+{
+    line.end()?;
+    // the call writes into memory that it is lent
+    let mut receipts = [0u64; opening_data::RECEIPTS];
+    let mut pairs = [0u64; opening_data::PAIRS];
+    allocation::close(book, &mut receipts, &mut pairs)?;
+    println!(rt; "closed")?;
+    let participants = book[layout::PARTICIPANTS] as usize;
+    let issues = book[layout::ISSUES] as usize;
+    // a day that is closed has both
+    if participants == 0 || issues == 0 {
+        return Ok(());
+    }
+    let codes = codes_in_book(book);
+    let codes = Codes { bytes: &codes };
+    listing::holdings(rt, "receipt", &codes, &receipts, issues)?;
+    listing::pairs(rt, "pair", &pairs, participants)?;
+    Ok(())
+}
+
+// "what stands in the book". Places beyond the day's sizes are 0, so whole tables are gone through.
+pub fn show<'a>(rt: &impl Print, book: &[u64], line: Line<'a>) -> Result<(), Failure<'a>>
+    requires { length book.now ≡ 3832 }
+{
+    line.end()?;
+    if book[layout::PARTICIPANTS] == 0 {
+        println!(rt; "no day")?;
+        return Ok(());
+    }
+    let codes = codes_in_book(book);
+    let codes = Codes { bytes: &codes };
+    let notices = &book[layout::NOTICES..layout::TODAY];
+    let today = &book[layout::TODAY..layout::TALLY];
+    let tally = &book[layout::TALLY..layout::LENGTH];
+    println!(rt; "runs {}", book[layout::RUNS])?;
+    println!(rt; "trades {}", book[layout::TRADES])?;
+    listing::positions(rt, book)?;
+    listing::holdings(rt, "notified", &codes, notices, MOST_ISSUES)?;
+    listing::holdings(rt, "tally", &codes, tally, MOST_ISSUES)?;
+    listing::pairs(rt, "paired", today, MOST_PARTICIPANTS)?;
+    Ok(())
+}

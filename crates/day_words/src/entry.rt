@@ -1,0 +1,42 @@
+// The entries of a notice.
+ghost use Rattle.std.specs.Prelude.{◌≡◌, ℕ, ◌<◌, length, slice_index, IfOk};
+ghost use Rattle.std.specs.List.{All};
+ghost use Rattle.words.specs.Lines.{words_left};
+ghost use Rattle.day_words.specs.Named.{IsEntry, AreEntries, codes_in};
+
+use crate::codes::Codes;
+use std::alloc::Global;
+use words::{Found, Line, Unread, read_number};
+
+const ENTRY: &str = "ISSUE=LOTS";
+
+// "ISSUE=LOTS". Where a part is missing, an error line shows the whole word, and else the part that is wrong.
+pub fn read_entry<'w>(codes: &Codes<'_>, word: &'w [u8]) -> Result<(u64, u64), Unread<'w>>
+    ensures { IfOk result (λ entry. IsEntry (codes_in codes.now.bytes.now) word.now entry.0 entry.1) }
+{
+    let Some((issue, lots)) = words::split_once(word, b'=') else {
+        return Err(Unread::Expected(ENTRY, Found::Word(word)));
+    };
+    if issue.is_empty() || lots.is_empty() {
+        return Err(Unread::Expected(ENTRY, Found::Word(word)));
+    }
+    Ok((codes.read_issue(issue)?, read_number(lots, "lots")?))
+}
+
+// "ISSUE=LOTS ..": the issues and the lots of all words that are left.
+pub fn entries<'w>(
+    alloc: Global,
+    codes: &Codes<'_>,
+    line: &Line<'w>,
+) -> Result<(Vec<u64>, Vec<u64>), Unread<'w>>
+    ensures { IfOk result (λ lists. AreEntries (codes_in codes.now.bytes.now) (words_left line.now) lists.0.items lists.1.items) }
+{
+    let mut issues = Vec::new(alloc);
+    let mut lots = Vec::new(alloc);
+    for word in line.words {
+        let (issue, count) = read_entry(codes, *word)?;
+        issues.push(issue)?;
+        lots.push(count)?;
+    }
+    Ok((issues, lots))
+}
