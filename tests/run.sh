@@ -18,6 +18,8 @@ cargo build --offline --release --quiet
 built=target/release
 $built/stored_days ../crates/allocate
 $built/stored_calls cases/calls.txt
+$built/named_places
+$built/convert_days ../crates/allocate/data/*.day
 # the random days on one core, the rest on the other
 $built/random_days "$seed" 20000 >../target/random_days 2>&1 &
 days=$!

@@ -7,6 +7,7 @@ pub mod dayfile;
 pub mod fast;
 pub mod layout;
 pub mod library;
+pub mod paper;
 pub mod random;
 pub mod reference;
 pub mod sample;

@@ -1,11 +1,12 @@
 //! The library's time held to the fast reference's on worst-case days.
 //! `bench` measures and prints a table; `bench names` lists the cases, each after the call that it makes; `bench CASE SIDE` makes one call, for callgrind to count.
 
-use allocation_tests::calls::{outcome, Allocation, Call, Opening, Outcome, Reply};
+use allocation_tests::calls::{Allocation, Call, Measured, Opening, Reply};
 use allocation_tests::compare::agreed;
 use allocation_tests::fast::Fast;
-use allocation_tests::layout::*;
+use allocation_tests::layout::LENGTH;
 use allocation_tests::library::Library;
+use allocation_tests::paper::*;
 use allocation_tests::random::Random;
 use allocation_tests::reference::Reference;
 use allocation_tests::sample;
@@ -36,16 +37,12 @@ struct Worst {
 }
 
 fn opening(r: &mut Random, worst: &Worst) -> Opening {
-    let largest = sample::KINDS.iter().find(|kind| kind.name == "large, near the limits").expect("a kind of large days");
-    let mut opening = sample::opening(r, largest);
-    while (opening.participants, opening.issues) != (PEOPLE, BONDS) {
-        opening = sample::opening(r, largest);
-    }
+    let mut opening = sample::largest(r);
     for (issue, terms) in opening.terms.chunks_mut(TERM).enumerate() {
-        let kind = worst.kinds[issue % worst.kinds.len()];
-        terms.copy_from_slice(&[kind, r.between(9_000, 11_000), r.between(100, 2_000), r.between(1, 180), 0, 0]);
+        terms.copy_from_slice(&sample::at_par(worst.kinds[issue % worst.kinds.len()]));
+        [terms[PRICE], terms[COUPON], terms[DAYS]] = [r.between(9_000, 11_000), r.between(100, 2_000), r.between(1, 180)];
     }
-    opening.receipts.fill(200_000_000);
+    opening.receipts.fill(NOTICE);
     for (at, mark) in opening.pairs.iter_mut().enumerate() {
         let (deliverer, receiver) = (at as u64 / PEOPLE % PEOPLE, at as u64 % PEOPLE);
         *mark = u64::from(worst.paired && deliverer != receiver);
@@ -55,8 +52,8 @@ fn opening(r: &mut Random, worst: &Worst) -> Opening {
 
 /// The days are made by the reference, so that callgrind counts one call of a side and no other.
 fn accepted(call: &Call, book: &mut [u64]) {
-    let reply = outcome(&Reference, call, book).reply;
-    assert!(!matches!(reply, Reply::Refused(_)), "{reply:?} to {call:?}");
+    let reply = Reference.make(&mut call.clone(), book);
+    assert!(!matches!(reply, Reply::Refused(_)), "{reply}: {call}");
 }
 
 /// Positions of which no two are equal, so that a basket has 11 matches.
@@ -91,21 +88,22 @@ fn before_run(r: &mut Random, worst: &Worst) -> (Opening, Vec<u64>) {
 }
 
 const EVERY: &[u64] = &[0];
-const OWN: &[u64] = &[0, 1, 2, 3, 4, 5, 6];
+const OWN: &[u64] = COMPOSITION[BASKETS - 1];
 
 fn run_case(name: &'static str, worst: Worst) -> Case {
     let r = &mut Random::new(1);
     let (opening, book) = before_run(r, &worst);
     let call = sample::run(r, &opening);
-    let Outcome { reply, lists } = outcome(&Reference, &call, &mut book.clone());
-    let Reply::Ran { matches, .. } = reply else { panic!("{reply:?}") };
-    assert_eq!(matches, 77, "{name}");
-    let entries = || lists[0].chunks_exact(MATCH).take(matches);
-    let (short, forced) = (entries().filter(|entry| entry[4] < entry[3]).count(), entries().filter(|entry| entry[6] > 0).count());
+    let mut made = call.clone();
+    let reply = Reference.make(&mut made, &mut book.clone());
+    let matches = made.entries(reply).0;
+    assert_eq!(matches.len(), MOST_MATCHES, "{name}: {reply}");
+    let short = matches.iter().filter(|entry| entry.covered < entry.matched).count();
+    let forced = matches.iter().filter(|entry| entry.forced_lots > 0).count();
     match worst.runs_before {
         0 => assert_eq!(short, 0, "{name}"),
-        1 => assert_eq!(short, 77, "{name}"),
-        _ => assert_eq!(forced, 77, "{name}"),
+        1 => assert_eq!(short, MOST_MATCHES, "{name}"),
+        _ => assert_eq!(forced, MOST_MATCHES, "{name}"),
     }
     Case { name, book, call }
 }
@@ -126,7 +124,7 @@ const CASES: [(&str, &str); 10] = [
 
 fn case(name: &'static str) -> Case {
     // whole units have no remainder, so that the second pass goes over every issue for nothing and the third has to end the match
-    let ample = |deliverers, paired| Worst { deliverers, paired, kinds: EVERY, most_lots: 3_000_000, step: 100_000, runs_before: 0 };
+    let ample = |deliverers, paired| Worst { deliverers, paired, kinds: EVERY, most_lots: 3_000_000, step: UNIT, runs_before: 0 };
     let scarce = |runs_before| Worst { deliverers: 6, paired: false, kinds: OWN, most_lots: 150_000, step: 1, runs_before };
     match name {
         "run, 6 deliverers, 77 drawn" => run_case(name, ample(6, false)),
@@ -147,7 +145,7 @@ fn other_case(name: &'static str, day: Worst) -> Case {
         "notice of 32 issues" => Call::Notice { participant: 5, issues: all.clone(), lots: all },
         "open" => Call::Open(opening),
         "close" => {
-            (0..3).for_each(|_| accepted(&sample::run(r, &opening), &mut book));
+            (0..MOST_RUNS).for_each(|_| accepted(&sample::run(r, &opening), &mut book));
             sample::close(&opening)
         }
         // the first check after soundness refuses
@@ -157,11 +155,16 @@ fn other_case(name: &'static str, day: Worst) -> Case {
     Case { name, book, call }
 }
 
-/// Nanoseconds of one call, the book and its lists lent beforehand.
-fn time(side: &dyn Allocation, case: &Case, book: &mut [u64], lists: &mut [Vec<u64>; 2]) -> u64 {
+/// What is measured, by the name of its side.
+type Side = (&'static str, fn(&mut Call, &mut [u64]) -> Reply);
+const SIDES: [Side; 2] =
+    [("library", |call, book| Library.make(call, book)), ("fast", |call, book| Fast.measured(call, book).expect("a call that is measured"))];
+
+/// Nanoseconds of one call on the case's book.
+fn time((_, make): Side, case: &Case, call: &mut Call, book: &mut [u64]) -> u64 {
     book.copy_from_slice(&case.book);
     let start = Instant::now();
-    let reply = case.call.make(side, book, lists);
+    let reply = make(call, book);
     let time = start.elapsed().as_nanos() as u64;
     black_box(reply);
     time
@@ -175,17 +178,15 @@ fn median(times: &mut [u64]) -> u64 {
 /// The medians of the library and of the fast reference, measured by turns.
 fn medians(case: &Case) -> [u64; 2] {
     agreed(&case.call, &mut case.book.clone(), 0);
-    let (mut book, mut lists) = (case.book.clone(), case.call.lent());
+    let (mut book, mut call) = (case.book.clone(), case.call.clone());
     let mut times = [vec![], vec![]];
     for _ in 0..ROUNDS {
         for (times, side) in times.iter_mut().zip(SIDES) {
-            times.push(time(side, case, &mut book, &mut lists));
+            times.push(time(side, case, &mut call, &mut book));
         }
     }
     times.map(|mut times| median(&mut times))
 }
-
-const SIDES: [&dyn Allocation; 2] = [&Library, &Fast];
 
 fn main() {
     let words: Vec<String> = std::env::args().skip(1).collect();
@@ -200,8 +201,8 @@ fn main() {
         ["names"] => CASES.iter().for_each(|(call, name)| println!("{call}:{name}")),
         [name, side] => {
             let mut case = case(CASES.iter().find(|known| known.1 == name).expect("a case").1);
-            let side = SIDES[["library", "fast"].iter().position(|&word| word == side).expect("library or fast")];
-            case.call.make(side, &mut case.book, &mut case.call.lent());
+            let (_, make) = SIDES.into_iter().find(|(name, _)| *name == side).expect("library or fast");
+            make(&mut case.call, &mut case.book);
         }
         _ => panic!("bench, bench names, or bench CASE SIDE"),
     }

@@ -1,47 +1,46 @@
 //! The stored cases of the calls, which come with right answers, through the reference, the fast reference and the library.
 //! `stored_calls FILE`: the answers. A line is a call with its reply, and what an accepted one wrote, by the names of tables and places.
 
-use allocation_tests::calls::{Allocation, Opening, Reply};
-use allocation_tests::cases::{opening, Case, Lengths, CASES, SMALL};
+use allocation_tests::calls::{Allocation, Call, Opening, Reply};
+use allocation_tests::cases::{cases, usual_day, Case, BEFORE};
 use allocation_tests::compare::SIDES;
 use allocation_tests::layout::*;
+use allocation_tests::paper::{CODE, MOST_ISSUES, MOST_PARTICIPANTS, TERM};
 use std::fs::read_to_string;
-use std::ops::Range;
 use std::process::exit;
 
-/// The two lists of a close on the usual day, one after the other, each with a place more than is needed.
-const LISTS: [Table; 4] = [("receipts", 0, &[3, 3]), ("past them", 9, &[]), ("pairs", 10, &[BASKETS, 3, 3]), ("past them", 73, &[])];
-
-fn places(&(_, at, sizes): &Table) -> Range<usize> {
-    at..at + sizes.iter().product::<usize>()
-}
-
-/// A place of a table by basket, participants and issue, as ` C 0:`.
-fn place(&(_, at, sizes): &Table, k: usize) -> String {
-    let (mut left, mut name) = (k - at, String::from(if sizes.is_empty() { "" } else { ":" }));
-    for &size in sizes.iter().rev() {
-        let number = left % size;
-        left /= size;
-        name = if size == BASKETS { format!(" {}{name}", char::from(b'A' + number as u8)) } else { format!(" {number}{name}") };
+/// The cells of a table that are to be shown, on a day of these sizes, as `, positions C 0: 1, C 1: -1`.
+fn named(table: &Table, cells: &[u64], (n, m): (usize, usize), shown: impl Fn(usize) -> bool) -> String {
+    let end = cells.len().min(table.at + table.cells(n, m));
+    let text = |k: usize| match table.by {
+        [] => format!(" {}", cells[k] as i64),
+        _ => format!(" {}: {}", table.place(k, n, m), cells[k] as i64),
+    };
+    let own: Vec<String> = (table.at..end).filter(|&k| shown(k)).map(text).collect();
+    if own.is_empty() {
+        String::new()
+    } else {
+        format!(", {}{}", table.name, own.join(","))
     }
-    name
 }
 
-/// The cells that are to be shown, by table and place, as `, positions C 0: 1, C 1: -1, trades 1`.
-fn named(tables: &[Table], cells: &[u64], shown: impl Fn(usize) -> bool) -> String {
-    let mut text = String::new();
-    for table in tables {
-        let own: Vec<String> = places(table).filter(|&k| shown(k)).map(|k| format!("{} {}", place(table, k), cells[k] as i64)).collect();
-        if !own.is_empty() {
-            text += &format!(", {}{}", table.0, own.join(","));
-        }
-    }
-    text
-}
+const LARGEST: (usize, usize) = (MOST_PARTICIPANTS, MOST_ISSUES);
 
 /// The cells of the book that a call changed, as they are then.
 fn changed(before: &[u64], after: &[u64]) -> String {
-    named(&TABLES, after, |k| before[k] != after[k])
+    TABLES.iter().map(|table| named(table, after, LARGEST, |k| before[k] != after[k])).collect()
+}
+
+/// The cells of the lists that a call wrote: of entries those that it changed, of other lists those that are not 0, and what is past them.
+fn written(before: &Call, after: &Call, book: &[u64]) -> String {
+    let day = (book[PARTICIPANTS] as usize, book[ISSUES] as usize);
+    let mut text = String::new();
+    for ((table, list), (_, old)) in after.written().into_iter().zip(before.written()) {
+        let by_entry = table.by.first() == Some(&By::Entry);
+        text += &named(&table, list, day, |k| if by_entry { list[k] != old[k] } else { list[k] != 0 });
+        text.extend(list.iter().skip(table.cells(day.0, day.1)).map(|cell| format!(", past them {cell}")));
+    }
+    text
 }
 
 /// The book that document 01 asks of an opening: the data as given, all else 0.
@@ -67,16 +66,16 @@ fn right(given: &Opening) -> Vec<u64> {
 fn opened(given: &Opening, cells: &[u64]) -> String {
     let right = right(given);
     let (mut text, mut zero) = (String::new(), vec![]);
-    for table @ (name, _, sizes) in TABLES {
-        let own = &cells[places(&table)];
-        if *own != right[places(&table)] {
+    for table in TABLES {
+        let (name, own) = (table.name, &cells[table.places()]);
+        if *own != right[table.places()] {
             text += &format!(", {name} NOT AS ASKED");
         } else if own.iter().all(|&cell| cell == 0) {
             zero.push(name);
-        } else if sizes.first() == Some(&MOST_ISSUES) {
+        } else if table.by.first() == Some(&By::Issue) {
             text += &format!(", {name} {}", by_issue(own, given.issues as usize));
         } else {
-            text += &named(&[table], cells, |k| cells[k] != 0);
+            text += &named(&table, cells, LARGEST, |k| cells[k] != 0);
         }
     }
     format!("{text}; 0 in {}", zero.join(", "))
@@ -97,59 +96,51 @@ fn by_issue(cells: &[u64], issues: usize) -> String {
     }
 }
 
-/// The reply to a call on these cells, and what an accepted one wrote, from the cells before and after. A refused call must change nothing, and no
-/// call what is past the book.
-fn told(cells: &mut [u64], call: impl FnOnce(&mut [u64]) -> Reply, wrote: impl FnOnce(&[u64], &[u64]) -> String) -> String {
-    let before = cells.to_vec();
-    let end = LENGTH.min(cells.len());
-    match call(cells) {
-        Reply::Accepted if before[end..] == cells[end..] => format!("accepted{}", wrote(&before, cells)),
-        Reply::Refused(number) if before == cells => format!("refused {number}"),
-        reply => format!("{reply:?}, AND CHANGED WHAT STAYS"),
+/// The reply to a call on a book of so many of these cells, and what an accepted one wrote. A refused call must change nothing, and no call what is
+/// past the book.
+fn told(side: &dyn Allocation, call: &Call, cells: &mut [u64], length: usize) -> String {
+    let (before, mut made) = (cells.to_vec(), call.clone());
+    match side.make(&mut made, &mut cells[..length]) {
+        Reply::Accepted if before[length..] == cells[length..] => match call {
+            Call::Open(given) => format!("accepted{}", opened(given, cells)),
+            _ => format!("accepted{}{}", changed(&before, cells), written(call, &made, cells)),
+        },
+        reply @ Reply::Refused(_) if before == cells && made == *call => reply.to_string(),
+        reply => format!("{reply}, AND CHANGED WHAT STAYS"),
     }
 }
 
-/// Opens the usual day. Its reply is not looked at: the openings with a name tell it.
-fn open_day(side: &dyn Allocation, participants: u64, issues: u64, lengths: Lengths, book: &mut [u64]) {
-    side.open(&opening(participants, issues, lengths, &[]), book);
+/// A call by its name alone.
+fn name_of(call: &Call) -> String {
+    call.to_string().split([',', ';']).next().unwrap_or_default().to_string()
 }
 
 /// The line of a case that has a name.
 fn line(side: &dyn Allocation, case: &Case, book: &mut [u64]) -> Option<String> {
-    let (call, name, told) = match *case {
-        Case::Day(participants, issues, lengths) => {
-            open_day(side, participants, issues, lengths, book);
+    let (call, name, told) = match case {
+        // its reply is not looked at: the openings with a name tell it
+        Case::Day(opening) => {
+            side.make(&mut Call::Open(opening.clone()), book);
             return None;
         }
         Case::Put(at, value) => {
-            book[at] = value;
+            book[*at] = *value;
             return None;
         }
-        Case::Open(name, participants, issues, lengths, changes) => {
-            let given = opening(participants, issues, lengths, changes);
-            let open = |cells: &mut [u64]| side.open(&given, &mut cells[..lengths[4]]);
-            let wrote = |_: &[u64], cells: &[u64]| opened(&given, cells);
-            ("opening", name, told(&mut [9; LENGTH + 1], open, wrote))
+        Case::Open(name, opening, length) => {
+            let call = Call::Open(opening.clone());
+            (name_of(&call), name, told(side, &call, &mut [BEFORE; LENGTH + 1], *length))
         }
-        Case::Trade(name, seller, buyer, basket, yen) => ("trade", name, told(book, |book| side.trade(book, seller, buyer, basket, yen), changed)),
-        Case::Notice(name, participant, issues, lots) => ("notice", name, told(book, |book| side.notice(book, participant, issues, lots), changed)),
+        Case::Made(name, call) => (name_of(call), name, told(side, call, book, LENGTH)),
         Case::Book(name, length, changes) => {
             let mut cells = [0; LENGTH + 1];
-            open_day(side, 3, 3, SMALL, &mut cells[..LENGTH]);
+            side.make(&mut Call::Open(usual_day()), &mut cells[..LENGTH]);
             for &(at, value) in changes {
                 cells[at] = value;
             }
-            let traded = told(&mut cells, |cells| side.trade(&mut cells[..length], 0, 1, 2, 1), changed);
-            let noted = told(&mut cells, |cells| side.notice(&mut cells[..length], 2, &[1], &[5]), changed);
-            ("book", name, format!("trade {traded}; notice {noted}"))
-        }
-        Case::Close(name, receipts, pairs) => {
-            let close = |lists: &mut [u64]| {
-                let (first, second) = lists.split_at_mut(10);
-                side.close(book, &mut first[..receipts], &mut second[..pairs])
-            };
-            let wrote = |_: &[u64], lists: &[u64]| named(&LISTS, lists, |k| lists[k] != 0);
-            ("close", name, told(&mut [9; 10 + 64], close, wrote))
+            let traded = told(side, &Call::Trade { seller: 0, buyer: 1, basket: 2, yen: 1 }, &mut cells, *length);
+            let noted = told(side, &Call::Notice { participant: 2, issues: vec![1], lots: vec![5] }, &mut cells, *length);
+            ("book".to_string(), name, format!("trade {traded}; notice {noted}"))
         }
     };
     Some(format!("{call}, {name}: {told}\n"))
@@ -157,7 +148,7 @@ fn line(side: &dyn Allocation, case: &Case, book: &mut [u64]) -> Option<String> 
 
 fn answers(side: &dyn Allocation) -> String {
     let mut book = vec![0; LENGTH];
-    CASES.iter().flat_map(|cases| cases.iter()).filter_map(|case| line(side, case, &mut book)).collect()
+    cases().iter().filter_map(|case| line(side, case, &mut book)).collect()
 }
 
 fn main() {

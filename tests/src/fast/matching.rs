@@ -1,6 +1,6 @@
 //! The matches of a basket, in the order in which they are filled.
 
-use crate::layout::MOST_PARTICIPANTS;
+use crate::paper::MOST_PARTICIPANTS;
 
 #[derive(Clone, Copy, Default)]
 pub struct Matched {

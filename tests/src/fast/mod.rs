@@ -6,8 +6,9 @@ mod matching;
 mod run;
 mod sound;
 
-use crate::calls::{Allocation, Opening, Reply};
-use crate::layout::{self, *};
+use crate::calls::{Call, Measured, Opening, Reply};
+use crate::layout::{self, marks, positions, CODES, ISSUES, LENGTH, NOTICES, PAIRS, PARTICIPANTS, RECEIPTS, RUNS, TALLY, TERMS, TODAY, TRADES};
+use crate::paper::*;
 use sound::*;
 
 type Book = [u64; LENGTH];
@@ -16,7 +17,7 @@ pub struct Fast;
 
 fn sound_book(book: &[u64]) -> Result<&Book, Reply> {
     let book: Option<&Book> = book.try_into().ok();
-    book.filter(|book| is_sound(book)).ok_or(Reply::Refused(5))
+    book.filter(|book| is_sound(book)).ok_or(Reply::Refused(Refusal::Unsound))
 }
 
 fn sound_book_mut(book: &mut [u64]) -> Result<&mut Book, Reply> {
@@ -24,27 +25,27 @@ fn sound_book_mut(book: &mut [u64]) -> Result<&mut Book, Reply> {
     Ok(book.try_into().expect("a book's length"))
 }
 
-fn refuse(number: u64, given: bool) -> Result<(), Reply> {
+fn refuse(refusal: Refusal, given: bool) -> Result<(), Reply> {
     if given {
-        Err(Reply::Refused(number))
+        Err(Reply::Refused(refusal))
     } else {
         Ok(())
     }
 }
 
 fn opened(o: &Opening, book: &mut [u64]) -> Result<Reply, Reply> {
-    refuse(1, !are_sizes(o.participants, o.issues))?;
+    refuse(Refusal::Size, !are_sizes(o.participants, o.issues))?;
     let (n, m) = (o.participants as usize, o.issues as usize);
     let lengths = [o.codes.len(), o.terms.len(), o.receipts.len(), o.pairs.len(), book.len()];
-    refuse(1, lengths != [CODE * m, TERM * m, n * m, BASKETS * n * n, LENGTH])?;
+    refuse(Refusal::Size, lengths != [CODE * m, TERM * m, n * m, BASKETS * n * n, LENGTH])?;
     let mut codes = [0; CODE * MOST_ISSUES];
     for (cell, &byte) in codes.iter_mut().zip(&o.codes) {
         *cell = byte.into();
     }
     let codes = &codes[..CODE * m];
-    refuse(2, !codes_right(codes))?;
-    refuse(3, !terms_fit(&o.terms))?;
-    refuse(4, !at_most(&o.receipts, RECEIPT) || !marks_fit(&o.pairs, n, n))?;
+    refuse(Refusal::Code, !codes_right(codes))?;
+    refuse(Refusal::Term, !terms_fit(&o.terms))?;
+    refuse(Refusal::Receipt, !at_most(&o.receipts, RECEIPT) || !marks_fit(&o.pairs, n, n))?;
 
     book.fill(0);
     book[PARTICIPANTS] = o.participants;
@@ -63,16 +64,16 @@ fn opened(o: &Opening, book: &mut [u64]) -> Result<Reply, Reply> {
 fn traded(book: &mut [u64], seller: u64, buyer: u64, basket: u64, yen: u64) -> Result<Reply, Reply> {
     let book = sound_book_mut(book)?;
     let n = book[PARTICIPANTS];
-    refuse(6, book[RUNS] == 3)?;
-    refuse(7, seller >= n || buyer >= n || basket >= BASKETS as u64 || seller == buyer)?;
-    refuse(8, yen == 0 || yen > AMOUNT)?;
-    refuse(9, !is_tradable(book, basket as usize))?;
+    refuse(Refusal::ThreeRuns, book[RUNS] == MOST_RUNS)?;
+    refuse(Refusal::NotOfDay, seller >= n || buyer >= n || basket >= BASKETS as u64 || seller == buyer)?;
+    refuse(Refusal::Amount, yen == 0 || yen > AMOUNT)?;
+    refuse(Refusal::NoIssue, !is_tradable(book, basket as usize))?;
     let row = positions(basket as usize);
     let (seller, buyer) = (row + seller as usize, row + buyer as usize);
     let sold = book[seller] as i64 + yen as i64;
     let bought = book[buyer] as i64 - yen as i64;
-    refuse(10, sold > POSITION as i64 || bought < -(POSITION as i64))?;
-    refuse(11, book[TRADES] == MOST_TRADES)?;
+    refuse(Refusal::Position, sold > POSITION as i64 || bought < -(POSITION as i64))?;
+    refuse(Refusal::Trades, book[TRADES] == MOST_TRADES)?;
     book[seller] = sold as u64;
     book[buyer] = bought as u64;
     book[TRADES] += 1;
@@ -82,15 +83,15 @@ fn traded(book: &mut [u64], seller: u64, buyer: u64, basket: u64, yen: u64) -> R
 fn noted(book: &mut [u64], participant: u64, issues: &[u64], lots: &[u64]) -> Result<Reply, Reply> {
     let book = sound_book_mut(book)?;
     let m = book[ISSUES];
-    refuse(6, book[RUNS] == 3)?;
-    refuse(7, participant >= book[PARTICIPANTS])?;
-    refuse(12, issues.is_empty() || issues.len() != lots.len())?;
+    refuse(Refusal::ThreeRuns, book[RUNS] == MOST_RUNS)?;
+    refuse(Refusal::NotOfDay, participant >= book[PARTICIPANTS])?;
+    refuse(Refusal::Entries, issues.is_empty() || issues.len() != lots.len())?;
     let mut named = 0u32;
     for &issue in issues {
-        refuse(12, issue >= m || named >> issue & 1 == 1)?;
+        refuse(Refusal::Entries, issue >= m || named >> issue & 1 == 1)?;
         named |= 1 << issue;
     }
-    refuse(13, !at_most(lots, NOTICE))?;
+    refuse(Refusal::Lots, !at_most(lots, NOTICE))?;
     let row = &mut book[layout::row(NOTICES, participant as usize)..][..m as usize];
     row.fill(0);
     for (&issue, &lots) in issues.iter().zip(lots) {
@@ -102,18 +103,18 @@ fn noted(book: &mut [u64], participant: u64, issues: &[u64], lots: &[u64]) -> Re
 fn ran(book: &mut [u64], draw: &[u64], matches: &mut [u64], lines: &mut [u64]) -> Result<Reply, Reply> {
     let book = sound_book_mut(book)?;
     let n = book[PARTICIPANTS];
-    refuse(6, book[RUNS] == 3)?;
+    refuse(Refusal::ThreeRuns, book[RUNS] == MOST_RUNS)?;
     let named = draw.iter().fold(0u64, |named, &p| named | if p < n { 1 << p } else { 0 });
-    refuse(14, draw.len() as u64 != n || named != (1 << n) - 1)?;
-    refuse(15, matches.len() < MATCHES || lines.len() < LINES)?;
+    refuse(Refusal::Draw, draw.len() as u64 != n || named != (1 << n) - 1)?;
+    refuse(Refusal::ShortList, matches.len() < MATCHES || lines.len() < LINES)?;
     Ok(run::run(book, draw, matches, lines))
 }
 
 fn closed(book: &[u64], receipts: &mut [u64], pairs: &mut [u64]) -> Result<Reply, Reply> {
     let book = sound_book(book)?;
     let (n, m) = (book[PARTICIPANTS] as usize, book[ISSUES] as usize);
-    refuse(16, book[RUNS] < 3)?;
-    refuse(15, receipts.len() < n * m || pairs.len() < BASKETS * n * n)?;
+    refuse(Refusal::FewRuns, book[RUNS] < MOST_RUNS)?;
+    refuse(Refusal::ShortList, receipts.len() < n * m || pairs.len() < BASKETS * n * n)?;
     for (p, to) in receipts.chunks_exact_mut(m).take(n).enumerate() {
         for (cell, &lots) in to.iter_mut().zip(&book[layout::row(TALLY, p)..]) {
             *cell = (lots as i64).max(0) as u64;
@@ -130,29 +131,41 @@ fn either(result: Result<Reply, Reply>) -> Reply {
 }
 
 // not inlined: callgrind counts each by its name
-impl Allocation for Fast {
+impl Fast {
     #[inline(never)]
-    fn open(&self, opening: &Opening, book: &mut [u64]) -> Reply {
+    fn open(opening: &Opening, book: &mut [u64]) -> Reply {
         either(opened(opening, book))
     }
 
     #[inline(never)]
-    fn trade(&self, book: &mut [u64], seller: u64, buyer: u64, basket: u64, yen: u64) -> Reply {
+    fn trade(book: &mut [u64], seller: u64, buyer: u64, basket: u64, yen: u64) -> Reply {
         either(traded(book, seller, buyer, basket, yen))
     }
 
     #[inline(never)]
-    fn notice(&self, book: &mut [u64], participant: u64, issues: &[u64], lots: &[u64]) -> Reply {
+    fn notice(book: &mut [u64], participant: u64, issues: &[u64], lots: &[u64]) -> Reply {
         either(noted(book, participant, issues, lots))
     }
 
     #[inline(never)]
-    fn run(&self, book: &mut [u64], draw: &[u64], matches: &mut [u64], lines: &mut [u64]) -> Reply {
+    fn run(book: &mut [u64], draw: &[u64], matches: &mut [u64], lines: &mut [u64]) -> Reply {
         either(ran(book, draw, matches, lines))
     }
 
     #[inline(never)]
-    fn close(&self, book: &[u64], receipts: &mut [u64], pairs: &mut [u64]) -> Reply {
+    fn close(book: &[u64], receipts: &mut [u64], pairs: &mut [u64]) -> Reply {
         either(closed(book, receipts, pairs))
+    }
+}
+
+impl Measured for Fast {
+    fn measured(&self, call: &mut Call, book: &mut [u64]) -> Option<Reply> {
+        Some(match call {
+            Call::Open(opening) => Fast::open(opening, book),
+            Call::Trade { seller, buyer, basket, yen } => Fast::trade(book, *seller, *buyer, *basket, *yen),
+            Call::Notice { participant, issues, lots } => Fast::notice(book, *participant, issues, lots),
+            Call::Run { draw, matches, lines } => Fast::run(book, draw, matches, lines),
+            Call::Close { receipts, pairs } => Fast::close(book, receipts, pairs),
+        })
     }
 }

@@ -5,7 +5,8 @@ use super::matching::{plan, Matched, Plan};
 use super::sound::KINDS;
 use super::Book;
 use crate::calls::Reply;
-use crate::layout::{self, *};
+use crate::layout::{self, marks, positions, ISSUES, NOTICES, PAIRS, PARTICIPANTS, RECEIPTS, RUNS, TALLY, TERMS, TODAY};
+use crate::paper::*;
 
 /// What a run reads of the issues: sets are a bit to an issue.
 struct Issues {
@@ -21,13 +22,13 @@ fn issues_of(book: &Book) -> Issues {
     let count = book[ISSUES] as usize;
     let mut issues = Issues { count, rates: [0; MOST_ISSUES], in_basket: [0; BASKETS], unmarked: 0, redeemed: 0, ten_year: 0 };
     for (i, t) in book[TERMS..][..TERM * count].chunks_exact(TERM).enumerate() {
-        issues.rates[i] = 3650 * t[1] + t[2] * t[3];
+        issues.rates[i] = PRICE_FACTOR * INTEREST_DIVISOR * t[PRICE] + t[COUPON] * t[DAYS];
         for (set, kinds) in issues.in_basket.iter_mut().zip(KINDS) {
-            *set |= u32::from(kinds >> t[0] & 1) << i;
+            *set |= u32::from(kinds >> t[KIND] & 1) << i;
         }
-        issues.unmarked |= u32::from(t[4] | t[5] == 0) << i;
-        issues.redeemed |= (t[4] as u32) << i;
-        issues.ten_year |= u32::from(t[0] == 2) << i;
+        issues.unmarked |= u32::from(t[REDEEMED] | t[INTEREST] == 0) << i;
+        issues.redeemed |= (t[REDEEMED] as u32) << i;
+        issues.ten_year |= u32::from(t[KIND] == TEN_YEAR) << i;
     }
     issues
 }
@@ -116,10 +117,10 @@ fn forced_issue(book: &Book, issues: &Issues, basket: usize, deliverer: usize) -
     }
     let ten_year = unmarked & issues.ten_year;
     let mut set = if ten_year == 0 { unmarked } else { ten_year };
-    if set.count_ones() < 5 {
+    if set.count_ones() < FIFTH as u32 {
         return set.trailing_zeros() as usize;
     }
-    for _ in 0..4 {
+    for _ in 1..FIFTH {
         set ^= 1 << (31 - set.leading_zeros());
     }
     31 - set.leading_zeros() as usize
@@ -163,7 +164,7 @@ fn post(book: &mut Book, basket: usize, matched: &Matched, covered: u64, lots: &
 
 /// A basket's matches, filled, listed and posted one after the other.
 fn run_basket(book: &mut Book, basket: usize, issues: &Issues, plan: &Plan, stocks: &mut [Stock], lists: &mut Lists) {
-    let third = book[RUNS] == 2;
+    let third = book[RUNS] + 1 == MOST_RUNS;
     let mut sorted_for = None;
     let mut order = Order { issues: [0; MOST_ISSUES], count: 0 };
     for matched in plan.matches() {

@@ -1,7 +1,8 @@
 //! A day out of the book and back. Places beyond the day's sizes are neither read nor written.
 
 use super::{checks, Day, Issue, Table};
-use crate::layout::{self, *};
+use crate::layout::{self, marks, positions, CODES, ISSUES, LENGTH, NOTICES, PAIRS, PARTICIPANTS, RECEIPTS, RUNS, TALLY, TERMS, TODAY, TRADES};
+use crate::paper::{Refusal, BASKETS, CODE, TERM};
 
 fn plain(cell: u64) -> i128 {
     cell.into()
@@ -40,13 +41,12 @@ fn read(book: &[u64]) -> Option<Day> {
 }
 
 pub fn issue(code: &[u64], terms: &[u64]) -> Issue {
-    let term = |t: usize| plain(terms[t]);
-    Issue { code: code.to_vec(), kind: term(0), price: term(1), coupon: term(2), days: term(3), redeemed: term(4), interest: term(5) }
+    Issue { code: code.to_vec(), terms: std::array::from_fn(|term| plain(terms[term])) }
 }
 
-/// The day of a sound book, or refusal 5.
-pub fn sound_day(book: &[u64]) -> Result<Day, u64> {
-    read(book).filter(checks::is_sound).ok_or(5)
+/// The day of a sound book.
+pub fn sound_day(book: &[u64]) -> Result<Day, Refusal> {
+    read(book).filter(checks::is_sound).ok_or(Refusal::Unsound)
 }
 
 fn write_row(book: &mut [u64], at: usize, row: &[i128]) {
@@ -62,8 +62,7 @@ pub fn write(day: &Day, book: &mut [u64]) {
     book[TRADES] = day.trades;
     for (i, issue) in day.issues.iter().enumerate() {
         book[CODES + CODE * i..][..CODE].copy_from_slice(&issue.code);
-        let terms = [issue.kind, issue.price, issue.coupon, issue.days, issue.redeemed, issue.interest];
-        write_row(book, TERMS + TERM * i, &terms);
+        write_row(book, TERMS + TERM * i, &issue.terms);
     }
     for p in 0..day.participants {
         write_row(book, layout::row(RECEIPTS, p), &day.receipts[p]);
