@@ -26,6 +26,7 @@ days=$!
 $built/random_memory "$seed" 1000000
 echo "under valgrind:"
 valgrind --quiet --error-exitcode=1 ../target/day
+valgrind --quiet --error-exitcode=1 $built/stored_calls cases/calls.txt
 valgrind --quiet --error-exitcode=1 $built/random_memory "$((seed + 1))" 20000
 $built/soak "$seed" 250
 ./performance.sh

@@ -1,7 +1,9 @@
-//! A call with all that it is given, and the sides that answer it: the library, the reference, and for what is measured the fast version.
-//! A call more is a case of `Call`, its words, its lists if it writes some, and a case of `make` on each side.
+//! A call with all that it is given, and a side that answers it. A call more is a case of `Call` with its words and its lists, and a case of
+//! `make` on each side.
 
-use crate::layout::{Table, LINE_LIST, MATCH_LIST, PAIR_LIST, RECEIPT_LIST};
+use crate::entries::{Line, Match};
+use crate::layout::{entry, Sizes};
+use crate::names::{Table, LINE_LIST, MATCH_LIST, PAIR_LIST, RECEIPT_LIST};
 use crate::paper::{Refusal, LINE, MATCH};
 use std::fmt::{self, Display, Formatter};
 
@@ -33,6 +35,10 @@ pub struct Opening {
 }
 
 impl Opening {
+    pub fn sizes(&self) -> Sizes {
+        Sizes { participants: self.participants as usize, issues: self.issues as usize }
+    }
+
     /// Takes the receipts and pairs that a close wrote.
     pub fn follow(&mut self, closed: &Call) {
         let Call::Close { receipts, pairs } = closed else { panic!("no close: {closed}") };
@@ -56,19 +62,14 @@ pub trait Allocation {
     fn make(&self, call: &mut Call, book: &mut [u64]) -> Reply;
 }
 
-/// A side that answers what the benchmark measures, and None for other calls, of which it then changes nothing.
-pub trait Measured {
-    fn measured(&self, call: &mut Call, book: &mut [u64]) -> Option<Reply>;
-}
-
 /// The call in words: its numbers, and of its lists how long they are.
 impl Display for Call {
     fn fmt(&self, f: &mut Formatter) -> fmt::Result {
         match self {
             Call::Open(o) => {
                 let [codes, terms, receipts, pairs] = [o.codes.len(), o.terms.len(), o.receipts.len(), o.pairs.len()];
-                let (n, m) = (o.participants, o.issues);
-                write!(f, "opening, participants {n}, issues {m}; sizes of lists: codes {codes}, terms {terms}, receipts {receipts}, pairs {pairs}")
+                write!(f, "opening, participants {}, issues {}", o.participants, o.issues)?;
+                write!(f, "; sizes of lists: codes {codes}, terms {terms}, receipts {receipts}, pairs {pairs}")
             }
             Call::Trade { seller, buyer, basket, yen } => write!(f, "trade, seller {seller}, buyer {buyer}, basket {basket}, yen {yen}"),
             Call::Notice { participant, issues, lots } => {
@@ -83,12 +84,23 @@ impl Display for Call {
 }
 
 impl Call {
+    /// What is called, without what it is given.
+    pub fn name(&self) -> &'static str {
+        match self {
+            Call::Open(_) => "opening",
+            Call::Trade { .. } => "trade",
+            Call::Notice { .. } => "notice",
+            Call::Run { .. } => "run",
+            Call::Close { .. } => "close",
+        }
+    }
+
     /// The lists that the call writes, and the names of their places.
     pub fn written(&self) -> Vec<(Table, &[u64])> {
         match self {
             Call::Run { matches, lines, .. } => vec![(MATCH_LIST, matches), (LINE_LIST, lines)],
             Call::Close { receipts, pairs } => vec![(RECEIPT_LIST, receipts), (PAIR_LIST, pairs)],
-            _ => vec![],
+            Call::Open(_) | Call::Trade { .. } | Call::Notice { .. } => vec![],
         }
     }
 
@@ -96,42 +108,11 @@ impl Call {
     pub fn entries(&self, reply: Reply) -> (Vec<Match>, Vec<Line>) {
         match (self, reply) {
             (Call::Run { matches, lines, .. }, Reply::Ran { matches: matched, lines: lined }) => {
-                (matches.chunks_exact(MATCH).take(matched).map(Match::read).collect(), lines.chunks_exact(LINE).take(lined).map(Line::read).collect())
+                let all_matches = (0..matched).map(|k| Match::read(&matches[entry(MATCH, k)]));
+                let all_lines = (0..lined).map(|k| Line::read(&lines[entry(LINE, k)]));
+                (all_matches.collect(), all_lines.collect())
             }
             _ => (vec![], vec![]),
         }
-    }
-}
-
-/// An entry of the first list of a run.
-#[derive(Clone, Copy, Debug)]
-pub struct Match {
-    pub basket: usize,
-    pub deliverer: usize,
-    pub receiver: usize,
-    pub matched: u64,
-    pub covered: u64,
-    pub forced_issue: usize,
-    pub forced_lots: u64,
-}
-
-impl Match {
-    fn read(entry: &[u64]) -> Match {
-        let [basket, deliverer, receiver, forced_issue] = [0, 1, 2, 5].map(|k: usize| entry[k] as usize);
-        Match { basket, deliverer, receiver, matched: entry[3], covered: entry[4], forced_issue, forced_lots: entry[6] }
-    }
-}
-
-/// An entry of the second list of a run.
-#[derive(Clone, Copy, Debug)]
-pub struct Line {
-    pub number: usize,
-    pub issue: usize,
-    pub lots: u64,
-}
-
-impl Line {
-    fn read(entry: &[u64]) -> Line {
-        Line { number: entry[0] as usize, issue: entry[1] as usize, lots: entry[2] }
     }
 }

@@ -1,76 +1,89 @@
-//! One call through every side, and what came of many.
+//! One call on two sides, held together cell by cell; and what came of many calls.
 
-use crate::calls::{Allocation, Call, Measured, Reply};
-use crate::layout::{self, ISSUES, PARTICIPANTS};
+use crate::calls::{Allocation, Call, Reply};
+use crate::layout::{Sizes, ISSUES};
+use crate::names::book_place;
 use crate::paper::REFUSALS;
-use crate::{fast::Fast, library::Library, reference::Reference};
+use crate::{library::Library, reference::Reference};
 
-/// The fast version of what is measured, and the reference for all else.
-struct FastWhereMeasured;
+/// The reference first: the library is held to it.
+pub const SIDES: [(&str, &dyn Allocation); 2] = [("reference", &Reference), ("library", &Library)];
 
-impl Allocation for FastWhereMeasured {
-    fn make(&self, call: &mut Call, book: &mut [u64]) -> Reply {
-        Fast.measured(call, book).unwrap_or_else(|| Reference.make(call, book))
-    }
+/// What a call came to: the side's name, its reply, the call with its lists as they were left, and the book.
+pub struct Made {
+    name: &'static str,
+    reply: Reply,
+    call: Call,
+    pub book: Vec<u64>,
 }
 
-/// The reference first: the others are held to it.
-pub const SIDES: [(&str, &dyn Allocation); 3] = [("reference", &Reference), ("fast reference", &FastWhereMeasured), ("library", &Library)];
+/// Makes the call on a copy of the book.
+pub fn made(name: &'static str, call: &Call, book: &[u64], make: impl FnOnce(&mut Call, &mut [u64]) -> Reply) -> Made {
+    let (mut call, mut book) = (call.clone(), book.to_vec());
+    let reply = make(&mut call, &mut book);
+    Made { name, reply, call, book }
+}
 
-/// A call and the book, before it or as it was left, with a name for a message.
-type State<'a> = (&'a str, &'a Call, &'a [u64]);
-
-/// The first cell that differs, of the book and then of the lists, by the name of its place, with both values.
-fn difference((one, call, book): State, (other, other_call, other_book): State) -> String {
-    let told = |place: String, a: u64, b: u64| format!("first cell that differs: {place}: {one} {}, {other} {}", a as i64, b as i64);
-    if let Some(k) = (0..book.len()).find(|&k| book[k] != other_book[k]) {
-        return told(layout::name(k), book[k], other_book[k]);
+/// The first place that differs, of the book and then of the lists, in words, with both numbers. A list goes by the day's sizes, where there is a
+/// book to tell them.
+fn difference(one: &Made, other: &Made) -> String {
+    let told = |place: String, a: u64, b: u64| format!("the {place}: {} {}, {} {}", one.name, a as i64, other.name, b as i64);
+    if let Some(k) = first(&one.book, &other.book) {
+        return told(book_place(k), one.book[k], other.book[k]);
     }
-    // a list goes by the day's sizes, where there is a book to tell them
-    let size = |place: usize| book.get(place).map_or(1, |&size| size as usize);
-    for ((table, list), (_, other_list)) in call.written().into_iter().zip(other_call.written()) {
-        if let Some(k) = (0..list.len()).find(|&k| list[k] != other_list[k]) {
-            return told(format!("{} {}", table.name, table.place(k, size(PARTICIPANTS), size(ISSUES))), list[k], other_list[k]);
+    let sizes = if one.book.len() > ISSUES { Sizes::of(&one.book) } else { Sizes::LARGEST };
+    for ((table, list), (_, other_list)) in one.call.written().into_iter().zip(other.call.written()) {
+        if let Some(k) = first(list, other_list) {
+            return told(table.in_words(k, sizes), list[k], other_list[k]);
         }
     }
-    "a list that no call writes differs".to_string()
+    "a list that no call writes".to_string()
+}
+
+fn first(one: &[u64], other: &[u64]) -> Option<usize> {
+    (0..one.len()).find(|&k| one[k] != other[k])
+}
+
+/// The message has the call without its lists, and the first place that differs.
+fn differ(expected: &Made, other: &Made, call: &Call, seed: u64) -> ! {
+    if other.reply != expected.reply {
+        panic!("seed {seed}: {call}\n{}: {}; {}: {}", expected.name, expected.reply, other.name, other.reply);
+    }
+    panic!("seed {seed}: {call}\n{}; first difference at {}", expected.reply, difference(expected, other));
+}
+
+/// Panics where two sides differ.
+pub fn hold(expected: &Made, other: &Made, call: &Call, seed: u64) {
+    if other.reply != expected.reply || other.call != expected.call || other.book != expected.book {
+        differ(expected, other, call, seed);
+    }
 }
 
 /// Makes the call on every side from the same book, and hands back what all of them answer, and the call with its lists as they leave it; the
 /// book becomes what all of them leave. A refused call changes no cell of anything.
 pub fn agreed(call: &Call, book: &mut Vec<u64>, seed: u64) -> (Reply, Call) {
-    let made = |side: &dyn Allocation| {
-        let (mut own_call, mut own_book) = (call.clone(), book.clone());
-        (side.make(&mut own_call, &mut own_book), own_call, own_book)
-    };
-    let [(reference, side), others @ ..] = SIDES;
-    let (expected, left, after) = made(side);
-    for (name, side) in others {
-        let (reply, own_call, own_book) = made(side);
-        assert!(reply == expected, "seed {seed}: {call}\n{reference}: {expected}; {name}: {reply}");
-        if own_call != left || own_book != after {
-            panic!("seed {seed}: {call}\n{reply}; {}", difference((reference, &left, &after), (name, &own_call, &own_book)));
-        }
+    let [expected, others @ ..] = SIDES.map(|(name, side)| made(name, call, book, |call, book| side.make(call, book)));
+    others.iter().for_each(|other| hold(&expected, other, call, seed));
+    if matches!(expected.reply, Reply::Refused(_)) && (expected.call != *call || expected.book != *book) {
+        let before = Made { name: "before", reply: expected.reply, call: call.clone(), book: book.clone() };
+        differ(&before, &Made { name: "after", ..expected }, call, seed);
     }
-    if matches!(expected, Reply::Refused(_)) && (left != *call || after != *book) {
-        panic!("seed {seed}: {call}\n{expected}; {}", difference(("before", call, book), ("after", &left, &after)));
-    }
-    *book = after;
-    (expected, left)
+    *book = expected.book;
+    (expected.reply, expected.call)
 }
 
 /// How often each reply came up.
 #[derive(Default)]
 pub struct Replies {
     pub calls: u64,
-    pub refusals: [u64; REFUSALS.len()],
+    refusals: [u64; REFUSALS.len()],
 }
 
 impl Replies {
     pub fn count(&mut self, reply: Reply) {
         self.calls += 1;
         if let Reply::Refused(refusal) = reply {
-            self.refusals[refusal as usize - 1] += 1;
+            self.refusals[refusal.index()] += 1;
         }
     }
 

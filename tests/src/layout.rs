@@ -1,143 +1,151 @@
-//! Where things stand in the book, and the names of places. The header has the places that it names; the others stand here.
+//! Where things stand in the book and in the lists of the calls. Places are worked out here alone.
 
 use crate::paper::*;
+use std::ops::Range;
 
-/// The numbers that include/allocation.h names, as build.rs reads them.
-pub mod header {
-    include!(concat!(env!("OUT_DIR"), "/header.rs"));
-}
-
-pub use header::{BOOK as LENGTH, NOTICES, POSITIONS, RUNS, TALLY, TODAY, TRADES};
-
-const SQUARE: usize = MOST_PARTICIPANTS * MOST_PARTICIPANTS;
+// the book: a number, or the first place of a table
 pub const PARTICIPANTS: usize = 0;
 pub const ISSUES: usize = 1;
+pub const RUNS: usize = 2;
+pub const TRADES: usize = 3;
 pub const CODES: usize = 4;
 pub const TERMS: usize = CODES + CODE * MOST_ISSUES;
 pub const RECEIPTS: usize = TERMS + TERM * MOST_ISSUES;
 pub const PAIRS: usize = RECEIPTS + MOST_PARTICIPANTS * MOST_ISSUES;
+pub const POSITIONS: usize = PAIRS + BASKETS * SQUARE;
+pub const NOTICES: usize = POSITIONS + BASKETS * MOST_PARTICIPANTS;
+pub const TODAY: usize = NOTICES + MOST_PARTICIPANTS * MOST_ISSUES;
+pub const TALLY: usize = TODAY + BASKETS * SQUARE;
+pub const LENGTH: usize = TALLY + MOST_PARTICIPANTS * MOST_ISSUES;
 
-/// What the places of a table go by.
-#[derive(Clone, Copy, PartialEq, Eq)]
-pub enum By {
-    Basket,
-    Participant,
-    Issue,
-    Byte,
-    Term,
-    /// an entry of a list
-    Entry,
-    /// a number of an entry, by these names
-    Number(&'static [&'static str]),
+const SQUARE: usize = MOST_PARTICIPANTS * MOST_PARTICIPANTS;
+
+/// A byte of an issue's code.
+pub const fn byte(issue: usize, byte: usize) -> usize {
+    CODES + CODE * issue + byte
 }
 
-impl By {
-    /// How many there are on a day of these sizes.
-    const fn count(self, participants: usize, issues: usize) -> usize {
-        match self {
-            By::Basket => BASKETS,
-            By::Participant => participants,
-            By::Issue => issues,
-            By::Byte => CODE,
-            By::Term => TERM,
-            By::Entry => usize::MAX,
-            By::Number(names) => names.len(),
-        }
+/// The bytes of an issue's code.
+pub const fn code(issue: usize) -> Range<usize> {
+    byte(issue, 0)..byte(issue, CODE)
+}
+
+/// The codes of so many issues.
+pub const fn codes(issues: usize) -> Range<usize> {
+    CODES..byte(issues, 0)
+}
+
+/// A term of an issue.
+pub const fn term(issue: usize, term: usize) -> usize {
+    TERMS + TERM * issue + term
+}
+
+/// The terms of an issue.
+pub const fn terms(issue: usize) -> Range<usize> {
+    term(issue, 0)..term(issue, TERM)
+}
+
+/// The terms of so many issues.
+pub const fn all_terms(issues: usize) -> Range<usize> {
+    TERMS..term(issues, 0)
+}
+
+/// A participant's lots of an issue, in the receipts, the notices or the tally.
+pub const fn lots(table: usize, participant: usize, issue: usize) -> usize {
+    table + MOST_ISSUES * participant + issue
+}
+
+/// A participant's lots of so many issues.
+pub const fn row(table: usize, participant: usize, issues: usize) -> Range<usize> {
+    lots(table, participant, 0)..lots(table, participant, issues)
+}
+
+/// A participant's position in a basket.
+pub const fn position(basket: usize, participant: usize) -> usize {
+    POSITIONS + MOST_PARTICIPANTS * basket + participant
+}
+
+/// The positions of so many participants in a basket.
+pub const fn positions(basket: usize, participants: usize) -> Range<usize> {
+    position(basket, 0)..position(basket, participants)
+}
+
+/// The mark of a pair in a basket, yesterday's (`PAIRS`) or today's (`TODAY`).
+pub const fn mark(table: usize, basket: usize, deliverer: usize, receiver: usize) -> usize {
+    table + SQUARE * basket + MOST_PARTICIPANTS * deliverer + receiver
+}
+
+/// A deliverer's marks with so many receivers.
+pub const fn marks(table: usize, basket: usize, deliverer: usize, receivers: usize) -> Range<usize> {
+    mark(table, basket, deliverer, 0)..mark(table, basket, deliverer, receivers)
+}
+
+/// The marks of all baskets, those beyond the day's participants too.
+pub const fn all_marks(table: usize) -> Range<usize> {
+    table..mark(table, BASKETS, 0, 0)
+}
+
+/// A day's sizes, by which the lists of an opening and a close are laid out.
+#[derive(Clone, Copy, Debug, PartialEq, Eq)]
+pub struct Sizes {
+    pub participants: usize,
+    pub issues: usize,
+}
+
+impl Sizes {
+    pub const LARGEST: Sizes = Sizes { participants: MOST_PARTICIPANTS, issues: MOST_ISSUES };
+
+    /// The sizes that a book has in their places.
+    pub fn of(book: &[u64]) -> Sizes {
+        Sizes { participants: book[PARTICIPANTS] as usize, issues: book[ISSUES] as usize }
     }
 
-    fn name(self, number: usize) -> String {
-        match self {
-            By::Basket => letter(number as u64).to_string(),
-            By::Term => crate::paper::TERMS[number].0.to_string(),
-            By::Number(names) => names[number].to_string(),
-            _ => number.to_string(),
-        }
+    /// How long the list of codes is.
+    pub const fn codes(self) -> usize {
+        CODE * self.issues
+    }
+
+    /// How long the list of terms is.
+    pub const fn terms(self) -> usize {
+        TERM * self.issues
+    }
+
+    /// How long a list of receipts is.
+    pub const fn receipts(self) -> usize {
+        self.participants * self.issues
+    }
+
+    /// How long a list of pair marks is.
+    pub const fn pairs(self) -> usize {
+        BASKETS * self.participants * self.participants
+    }
+
+    /// A participant's lots of an issue, in a list of receipts.
+    pub const fn receipt(self, participant: usize, issue: usize) -> usize {
+        self.issues * participant + issue
+    }
+
+    /// A participant's lots of all issues, in a list of receipts.
+    pub const fn row(self, participant: usize) -> Range<usize> {
+        self.receipt(participant, 0)..self.receipt(participant + 1, 0)
+    }
+
+    /// The mark of a pair in a basket, in a list of pair marks.
+    pub const fn pair(self, basket: usize, deliverer: usize, receiver: usize) -> usize {
+        self.participants * (self.participants * basket + deliverer) + receiver
+    }
+
+    /// A deliverer's marks with all receivers in a basket, in a list of pair marks.
+    pub const fn marks(self, basket: usize, deliverer: usize) -> Range<usize> {
+        self.pair(basket, deliverer, 0)..self.pair(basket, deliverer + 1, 0)
     }
 }
 
-/// A basket's letter.
-pub fn letter(basket: u64) -> char {
-    u8::try_from(basket).ok().and_then(|basket| basket.checked_add(b'A')).map_or('?', char::from)
-}
+// the lists of a run: how many numbers are asked of them
+pub const MATCHES: usize = MATCH * MOST_MATCHES;
+pub const LINES: usize = LINE * MOST_LINES;
 
-/// A table of cells: its name, where it starts, and what its places go by.
-#[derive(Clone, Copy)]
-pub struct Table {
-    pub name: &'static str,
-    pub at: usize,
-    pub by: &'static [By],
-}
-
-const fn table(name: &'static str, at: usize, by: &'static [By]) -> Table {
-    Table { name, at, by }
-}
-
-/// The tables of the book, in the order of document 01.
-pub const TABLES: [Table; 12] = [
-    table("participants", PARTICIPANTS, &[]),
-    table("issues", ISSUES, &[]),
-    table("codes", CODES, &[By::Issue, By::Byte]),
-    table("terms", TERMS, &[By::Issue, By::Term]),
-    table("receipts", RECEIPTS, &[By::Participant, By::Issue]),
-    table("pairs", PAIRS, &[By::Basket, By::Participant, By::Participant]),
-    table("positions", POSITIONS, &[By::Basket, By::Participant]),
-    table("notices", NOTICES, &[By::Participant, By::Issue]),
-    table("runs", RUNS, &[]),
-    table("trades", TRADES, &[]),
-    table("today's pairs", TODAY, &[By::Basket, By::Participant, By::Participant]),
-    table("tally", TALLY, &[By::Participant, By::Issue]),
-];
-
-// the lists that calls write
-pub const MATCH_LIST: Table = table("match", 0, &[By::Entry, By::Number(&MATCH_NUMBERS)]);
-pub const LINE_LIST: Table = table("line", 0, &[By::Entry, By::Number(&LINE_NUMBERS)]);
-pub const RECEIPT_LIST: Table = table("receipts", 0, &[By::Participant, By::Issue]);
-pub const PAIR_LIST: Table = table("pairs", 0, &[By::Basket, By::Participant, By::Participant]);
-
-impl Table {
-    /// How many cells it has on a day of these sizes.
-    pub fn cells(&self, participants: usize, issues: usize) -> usize {
-        self.by.iter().fold(1, |cells: usize, by| cells.saturating_mul(by.count(participants, issues)))
-    }
-
-    /// Its places in the book.
-    pub fn places(&self) -> std::ops::Range<usize> {
-        self.at..self.at + self.cells(MOST_PARTICIPANTS, MOST_ISSUES)
-    }
-
-    /// Place k of it on a day of these sizes, without its own name: `C 0`, `3 covered yen`.
-    pub fn place(&self, k: usize, participants: usize, issues: usize) -> String {
-        let (mut left, mut words) = (k - self.at, vec![]);
-        for (level, by) in self.by.iter().enumerate().rev() {
-            // past the end of a list the first number goes on
-            let count = if level == 0 { usize::MAX } else { by.count(participants, issues).max(1) };
-            words.push(by.name(left % count));
-            left /= count;
-        }
-        words.reverse();
-        words.join(" ")
-    }
-}
-
-/// The name of a cell of the book: `positions C 0`, `runs`.
-pub fn name(cell: usize) -> String {
-    match TABLES.iter().find(|table| table.places().contains(&cell)) {
-        Some(table) => format!("{} {}", table.name, table.place(cell, MOST_PARTICIPANTS, MOST_ISSUES)).trim_end().to_string(),
-        None => format!("cell {cell}, which is in no table"),
-    }
-}
-
-/// The place of participant p's row in a table by participant and issue.
-pub const fn row(table: usize, p: usize) -> usize {
-    table + MOST_ISSUES * p
-}
-
-/// The place of a basket's row of positions.
-pub const fn positions(basket: usize) -> usize {
-    POSITIONS + MOST_PARTICIPANTS * basket
-}
-
-/// The place of a deliverer's row of pair marks.
-pub const fn marks(table: usize, basket: usize, deliverer: usize) -> usize {
-    table + SQUARE * basket + MOST_PARTICIPANTS * deliverer
+/// Entry k of a list whose entries have so many numbers: a match, a line, the code or the terms of an issue.
+pub const fn entry(numbers: usize, k: usize) -> Range<usize> {
+    numbers * k..numbers * (k + 1)
 }

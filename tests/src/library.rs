@@ -1,7 +1,7 @@
 //! A safe wrapper over the exports of include/allocation.h.
 
 use crate::calls::{Allocation, Call, Reply};
-use crate::layout::header;
+use crate::header;
 use crate::paper::Refusal;
 
 mod exports {

@@ -3,12 +3,21 @@
 
 use std::ops::RangeInclusive;
 
+/// "A lot is 50,000 yen of face value."
+pub const LOT: u64 = 50_000;
+
 // "A day has 2 to 12 participants and 1 to 32 issues, numbered from 0. Baskets A to G are 0 to 6."
-pub const PARTICIPANTS: RangeInclusive<u64> = 2..=12;
-pub const ISSUES: RangeInclusive<u64> = 1..=32;
-pub const MOST_PARTICIPANTS: usize = *PARTICIPANTS.end() as usize;
-pub const MOST_ISSUES: usize = *ISSUES.end() as usize;
+pub const FEWEST_PARTICIPANTS: usize = 2;
+pub const MOST_PARTICIPANTS: usize = 12;
+pub const FEWEST_ISSUES: usize = 1;
+pub const MOST_ISSUES: usize = 32;
 pub const BASKETS: usize = 7;
+
+/// Are these a day's sizes?
+pub fn are_sizes(participants: u64, issues: u64) -> bool {
+    let within = |size: u64, fewest: usize, most: usize| fewest as u64 <= size && size <= most as u64;
+    within(participants, FEWEST_PARTICIPANTS, MOST_PARTICIPANTS) && within(issues, FEWEST_ISSUES, MOST_ISSUES)
+}
 
 /// "runs done (0 to 3)"
 pub const MOST_RUNS: u64 = 3;
@@ -20,9 +29,9 @@ pub const COUNTRY: [u8; 2] = *b"JP";
 
 /// "Terms are kind, price (hundredths of a yen per 100 face, 1,000 to 30,000), coupon (thousandths of a percent, 0 to 20,000), days of accrued
 /// interest (0 to 366), and two marks, 0 or 1: redeemed on the following day, interest paid on the following day."
-pub const TERMS: [(&str, RangeInclusive<u64>); 6] =
+pub const TERM_RANGES: [(&str, RangeInclusive<u64>); 6] =
     [("kind", 0..=6), ("price", 1_000..=30_000), ("coupon", 0..=20_000), ("days", 0..=366), ("redeemed", 0..=1), ("interest", 0..=1)];
-pub const TERM: usize = TERMS.len();
+pub const TERM: usize = TERM_RANGES.len();
 pub const KIND: usize = 0;
 pub const PRICE: usize = 1;
 pub const COUPON: usize = 2;
@@ -31,11 +40,11 @@ pub const REDEEMED: usize = 4;
 pub const INTEREST: usize = 5;
 
 pub const fn least(term: usize) -> u64 {
-    *TERMS[term].1.start()
+    *TERM_RANGES[term].1.start()
 }
 
 pub const fn most(term: usize) -> u64 {
-    *TERMS[term].1.end()
+    *TERM_RANGES[term].1.end()
 }
 
 /// "scheduled receipts (0 to 10^12 lots by participant and issue)"
@@ -67,11 +76,9 @@ pub const MATCH_NUMBERS: [&str; 7] = ["basket", "deliverer", "receiver", "matche
 pub const LINE_NUMBERS: [&str; 3] = ["match", "issue", "lots"];
 pub const MATCH: usize = MATCH_NUMBERS.len();
 pub const LINE: usize = LINE_NUMBERS.len();
-// "run 77 matches and 2,464 lines": the entries that are asked, and their numbers
+// "run 77 matches and 2,464 lines"
 pub const MOST_MATCHES: usize = 77;
 pub const MOST_LINES: usize = 2_464;
-pub const MATCHES: usize = MOST_MATCHES * MATCH;
-pub const LINES: usize = MOST_LINES * LINE;
 
 /// "amount 0 or above 10^12 yen"
 pub const AMOUNT: u64 = 10u64.pow(12);
@@ -134,7 +141,12 @@ impl Refusal {
         REFUSALS.iter().map(|&(refusal, _)| refusal).find(|refusal| refusal.number() == number)
     }
 
+    /// Its place in `REFUSALS`.
+    pub fn index(self) -> usize {
+        self as usize - 1
+    }
+
     pub fn words(self) -> &'static str {
-        REFUSALS[self as usize - 1].1
+        REFUSALS[self.index()].1
     }
 }

@@ -1,4 +1,4 @@
-//! Random days of every kind through the reference, the fast reference and the library: every reply, list and cell of the book is compared.
+//! Random days of every kind through the reference and the library: every reply, list and cell of the book is compared.
 //! `random_days SEED SIZE`: day k of seed s is day 0 of seed s + k.
 
 use allocation_tests::calls::{Call, Reply};
@@ -6,6 +6,9 @@ use allocation_tests::compare::{agreed, Replies};
 use allocation_tests::layout::LENGTH;
 use allocation_tests::random::{seed_and_size, Random};
 use allocation_tests::sample::{self, KINDS};
+
+/// So many days bring up every refusal and every sort of match.
+const ENOUGH: u64 = 10_000;
 
 /// What came up: replies by refusal, and matches by what they were filled with.
 #[derive(Default)]
@@ -76,7 +79,9 @@ fn main() {
         seen.forced,
         seen.replies.told()
     );
-    if days >= 10_000 {
+    if days >= ENOUGH {
         seen.check();
+    } else {
+        println!("random days: fewer than {ENOUGH}, so that every refusal comes up is not asked");
     }
 }

@@ -3,14 +3,18 @@
 
 use allocation_tests::calls::{Call, Opening};
 use allocation_tests::compare::{agreed, Replies};
-use allocation_tests::layout::{positions, LENGTH, POSITIONS, TABLES, TRADES};
+use allocation_tests::layout::{position, positions, Sizes, CODES, LENGTH, POSITIONS, TRADES};
+use allocation_tests::names::TABLES;
 use allocation_tests::paper::{BASKETS, MOST_PARTICIPANTS, MOST_TRADES, POSITION};
 use allocation_tests::random::{seed_and_size, Random};
 use allocation_tests::sample::{self, near_bound, Kind, KINDS};
 
+/// So many calls bring up every refusal.
+const ENOUGH: u64 = 100_000;
+
 /// Changes a cell of any table, each as likely as the next.
 fn change(r: &mut Random, book: &mut [u64]) {
-    let places = r.choice(&TABLES).places();
+    let places = r.choice(&TABLES).places(Sizes::LARGEST);
     let at = r.between(places.start as u64, places.end as u64 - 1) as usize;
     match r.below(8) {
         0 => book[at] ^= 1 << r.below(64),
@@ -26,15 +30,16 @@ fn change(r: &mut Random, book: &mut [u64]) {
 
 /// Changes two positions of a basket and leaves its sum.
 fn move_position(r: &mut Random, book: &mut [u64]) {
-    let row = positions(r.below(BASKETS as u64) as usize);
+    let basket = r.below(BASKETS as u64) as usize;
+    let (one, other) = (position(basket, 0), position(basket, 1));
     let yen = near_bound(r);
-    book[row] = book[row].wrapping_add(yen);
-    book[row + 1] = book[row + 1].wrapping_sub(yen);
+    book[one] = book[one].wrapping_add(yen);
+    book[other] = book[other].wrapping_sub(yen);
 }
 
 /// Two positions of a basket as large as they may be, so that a trade of the one or the other is refused.
 fn positions_at_limit(r: &mut Random, book: &mut [u64]) {
-    let row = &mut book[positions(r.below(BASKETS as u64) as usize)..][..MOST_PARTICIPANTS];
+    let row = &mut book[positions(r.below(BASKETS as u64) as usize, MOST_PARTICIPANTS)];
     row.fill(0);
     (row[0], row[1]) = (POSITION, POSITION.wrapping_neg());
 }
@@ -46,7 +51,7 @@ fn memory(r: &mut Random, standing: &[u64]) -> Vec<u64> {
         0 => book.iter_mut().for_each(|cell| *cell = r.number()),
         1 => book.iter_mut().for_each(|cell| *cell = near_bound(r)),
         2 => {
-            let length = r.choice(&[0, 1, 4, POSITIONS, LENGTH - 1, LENGTH + 1, 2 * LENGTH]);
+            let length = r.choice(&[0, 1, CODES, POSITIONS, LENGTH - 1, LENGTH + 1, 2 * LENGTH]);
             book.resize(length, 0);
         }
         // as it stands
@@ -94,7 +99,9 @@ fn main() {
         replies.accepted(),
         replies.told()
     );
-    if calls >= 100_000 {
+    if calls >= ENOUGH {
         replies.check();
+    } else {
+        println!("random memory: fewer than {ENOUGH} calls, so that every refusal comes up is not asked");
     }
 }

@@ -1,10 +1,12 @@
 //! Days in a row, each of 10,000 trades and 240 notices, three runs and a close into the next. Yen and lots are counted apart from the book, and
 //! every day's sums are checked. `soak SEED SIZE`: the size counts days.
 
-use allocation_tests::calls::{Allocation, Call, Line, Match, Opening, Reply};
+use allocation_tests::calls::{Allocation, Call, Opening, Reply};
 use allocation_tests::compare::agreed;
-use allocation_tests::layout::{positions, row, LENGTH, TALLY, TRADES};
+use allocation_tests::entries::{Line, Match};
+use allocation_tests::layout::{entry, lots, position, LENGTH, TALLY, TRADES};
 use allocation_tests::library::Library;
+use allocation_tests::names::book_place;
 use allocation_tests::paper::{Refusal, BASKETS, MOST_ISSUES, MOST_PARTICIPANTS, MOST_RUNS, MOST_TRADES, TERM};
 use allocation_tests::random::{seed_and_size, Random};
 use allocation_tests::sample::{self, LARGE};
@@ -51,17 +53,16 @@ impl Counted {
 
     /// The book says the same; positions sum to zero in a basket, and the tally in an issue.
     fn check(&self, book: &[u64]) {
+        let held = |place: usize, counted: i128| assert_eq!(i128::from(book[place] as i64), counted, "the {}", book_place(place));
         for (basket, row) in self.positions.iter().enumerate() {
-            let stored = &book[positions(basket)..][..PEOPLE];
-            assert!(row.iter().zip(stored).all(|(yen, &cell)| *yen == i128::from(cell as i64)), "positions of basket {basket}");
-            assert_eq!(row.iter().sum::<i128>(), 0);
+            row.iter().enumerate().for_each(|(p, &yen)| held(position(basket, p), yen));
+            assert_eq!(row.iter().sum::<i128>(), 0, "the sum of positions of basket {basket}");
         }
-        for (p, lots) in self.tally.iter().enumerate() {
-            let stored = &book[row(TALLY, p)..][..MOST_ISSUES];
-            assert!(lots.iter().zip(stored).all(|(lots, &cell)| *lots == i128::from(cell as i64)), "tally of participant {p}");
+        for (p, row) in self.tally.iter().enumerate() {
+            row.iter().enumerate().for_each(|(issue, &count)| held(lots(TALLY, p, issue), count));
         }
         for issue in 0..MOST_ISSUES {
-            assert_eq!(self.tally.iter().map(|row| row[issue]).sum::<i128>(), 0);
+            assert_eq!(self.tally.iter().map(|row| row[issue]).sum::<i128>(), 0, "the sum of tallies in issue {issue}");
         }
     }
 }
@@ -108,7 +109,7 @@ fn day(r: &mut Random, opening: &mut Opening, seed: u64) -> Counted {
 /// An opening of the largest day in which every basket can be traded.
 fn largest(r: &mut Random) -> Opening {
     let mut opening = sample::largest(r);
-    opening.terms[..TERM].copy_from_slice(&sample::at_par(0));
+    opening.terms[entry(TERM, 0)].copy_from_slice(&sample::at_par(0));
     opening
 }
 

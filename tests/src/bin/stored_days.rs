@@ -1,4 +1,4 @@
-//! The stored days of crates/allocate, which come with right answers, through the reference, the fast reference and the library.
+//! The stored days of crates/allocate, which come with right answers, through the reference and the library.
 //! `stored_days FOLDER`: the crate's folder, with args (a day file to a line), data/ and stdout (their answers, one after the other).
 
 use allocation_tests::compare::SIDES;
@@ -25,5 +25,5 @@ fn main() {
         at += given[0].len();
     }
     assert!(at > 0, "no stored day");
-    println!("stored days: {} days, {at} answers; reference, fast reference and library answer as stored", names.len());
+    println!("stored days: {} days, {at} answers; reference and library answer as stored", names.len());
 }

@@ -1,9 +1,10 @@
 //! The answers of one side to a day file: enough of them to hold it to the stored days.
 
-use super::{lines, Line};
+use super::{lines, show::shown, Line};
 use crate::calls::{Allocation, Call, Opening, Reply};
-use crate::layout::{self, letter, ISSUES, LENGTH, NOTICES, PARTICIPANTS, RUNS, TALLY, TODAY, TRADES};
-use crate::paper::{BASKETS, CODE, LINES, MATCHES};
+use crate::layout::{entry, Sizes, LENGTH, LINES, MATCHES};
+use crate::names::letter;
+use crate::paper::{BASKETS, CODE};
 
 struct Reader<'a> {
     side: &'a dyn Allocation,
@@ -23,7 +24,8 @@ pub fn answers(side: &dyn Allocation, text: &str) -> Vec<String> {
 
 /// The codes of an opening.
 fn codes_of(opening: &Opening) -> Vec<String> {
-    opening.codes.chunks(CODE).map(|code| String::from_utf8_lossy(code).into_owned()).collect()
+    let count = opening.codes.len() / CODE;
+    (0..count).map(|issue| String::from_utf8_lossy(&opening.codes[entry(CODE, issue)]).into_owned()).collect()
 }
 
 /// An issue by its number or its code.
@@ -43,12 +45,13 @@ impl Reader<'_> {
                 self.opening.terms.extend(terms);
             }
             Line::Receipt { participant, issue: word, lots } => {
-                let at = participant * self.opening.issues + issue(&word, &codes_of(&self.opening));
-                self.opening.receipts[at as usize] = lots;
+                let issue = issue(&word, &codes_of(&self.opening));
+                let place = self.opening.sizes().receipt(participant as usize, issue as usize);
+                self.opening.receipts[place] = lots;
             }
             Line::Pair { basket, deliverer, receiver } => {
-                let n = self.opening.participants;
-                self.opening.pairs[((basket * n + deliverer) * n + receiver) as usize] = 1;
+                let place = self.opening.sizes().pair(basket as usize, deliverer as usize, receiver as usize);
+                self.opening.pairs[place] = 1;
             }
             Line::Open => self.open(),
             Line::Trade { seller, buyer, basket, yen } => {
@@ -60,15 +63,15 @@ impl Reader<'_> {
             }
             Line::Run { draw } => self.run(draw),
             Line::Close => self.close(),
-            Line::Show => self.show(),
+            Line::Show => self.answers.extend(shown(&self.book, &self.codes)),
         }
     }
 
     fn begin(&mut self, participants: u64, issues: u64) {
-        let n = participants as usize;
         self.opening = Opening { participants, issues, ..Opening::default() };
-        self.opening.receipts = vec![0; n * issues as usize];
-        self.opening.pairs = vec![0; BASKETS * n * n];
+        let sizes = self.opening.sizes();
+        self.opening.receipts = vec![0; sizes.receipts()];
+        self.opening.pairs = vec![0; sizes.pairs()];
     }
 
     fn say(&mut self, answer: String) {
@@ -110,51 +113,20 @@ impl Reader<'_> {
     }
 
     fn close(&mut self) {
-        let (n, m) = (self.book[PARTICIPANTS] as usize, self.book[ISSUES] as usize);
-        let call = Call::Close { receipts: vec![0; n * m], pairs: vec![0; BASKETS * n * n] };
+        let sizes @ Sizes { participants, issues } = Sizes::of(&self.book);
+        let call = Call::Close { receipts: vec![0; sizes.receipts()], pairs: vec![0; sizes.pairs()] };
         let Some((Call::Close { receipts, pairs }, _)) = self.call(call, "closed") else { return };
-        for (at, lots) in receipts.iter().enumerate().filter(|(_, &lots)| lots > 0) {
-            self.say(format!("receipt {} {} {lots}", at / m, self.codes[at % m]));
-        }
-        for (at, _) in pairs.iter().enumerate().filter(|(_, &mark)| mark > 0) {
-            self.say(format!("pair {} {} {}", letter((at / (n * n)) as u64), at / n % n, at % n));
-        }
-    }
-
-    fn show(&mut self) {
-        let (n, m) = (self.book[PARTICIPANTS] as usize, self.book[ISSUES] as usize);
-        if n == 0 {
-            return self.say("no day".to_string());
-        }
-        self.say(format!("runs {}", self.book[RUNS]));
-        self.say(format!("trades {}", self.book[TRADES]));
-        for p in 0..n {
-            for k in 0..BASKETS {
-                self.show_cell(format!("position {p} {}", letter(k as u64)), layout::positions(k) + p, true);
+        for p in 0..participants {
+            for i in (0..issues).filter(|&i| receipts[sizes.receipt(p, i)] > 0) {
+                self.say(format!("receipt {p} {} {}", self.codes[i], receipts[sizes.receipt(p, i)]));
             }
         }
-        for (word, table, signed) in [("notified", NOTICES, false), ("tally", TALLY, true)] {
-            for p in 0..n {
-                for i in 0..m {
-                    let code = self.codes[i].clone();
-                    self.show_cell(format!("{word} {p} {code}"), layout::row(table, p) + i, signed);
+        for basket in 0..BASKETS {
+            for deliverer in 0..participants {
+                for receiver in (0..participants).filter(|&receiver| pairs[sizes.pair(basket, deliverer, receiver)] > 0) {
+                    self.say(format!("pair {} {deliverer} {receiver}", letter(basket as u64)));
                 }
             }
-        }
-        for k in 0..BASKETS {
-            for at in 0..n * n {
-                if self.book[layout::marks(TODAY, k, at / n) + at % n] > 0 {
-                    self.say(format!("paired {} {} {}", letter(k as u64), at / n, at % n));
-                }
-            }
-        }
-    }
-
-    fn show_cell(&mut self, words: String, at: usize, signed: bool) {
-        match self.book[at] {
-            0 => {}
-            cell if signed => self.say(format!("{words} {}", cell as i64)),
-            cell => self.say(format!("{words} {cell}")),
         }
     }
 }

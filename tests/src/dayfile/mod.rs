@@ -1,12 +1,14 @@
-//! Day files: what a line says, read and written. The format stands here alone. A request that changes a line changes its case of `Line` and
-//! the same case of `text` and of `read`; `converted` gives older lines, which `read` takes as well, what they lack, and the program
-//! convert_days rewrites the files.
+//! Day files: what a line says, read and written. The format stands here alone. A request that changes a line changes its case of `Line`, of
+//! `read` and of `text`, and `convert::converted`, by which the stored days come to the new format.
 
 mod answers;
+mod convert;
+mod show;
 
 pub use answers::answers;
+pub use convert::rewritten;
 
-use crate::layout::letter;
+use crate::names::letter;
 use crate::paper::TERM;
 
 /// A line with something in it. An issue is a word: its number or its code.
@@ -124,27 +126,4 @@ fn parted(line: &str) -> (Vec<&str>, &str) {
 pub fn lines(text: &str) -> Vec<Line> {
     let words = text.lines().map(|line| parted(line).0).filter(|words| !words.is_empty());
     words.map(|words| Line::read(&words).unwrap_or_else(|| panic!("cannot be read: {}", words.join(" ")))).collect()
-}
-
-/// The file read, brought to the present format and written, line by line. Comments, empty lines and lines that cannot be read stay.
-pub fn rewritten(text: &str) -> String {
-    let (mut so_far, mut written) = (vec![], String::new());
-    for line in text.split_inclusive('\n') {
-        let (content, end) = line.split_at(line.trim_end_matches('\n').len());
-        let (words, comment) = parted(content);
-        let Some(read) = Line::read(&words) else {
-            written += line;
-            continue;
-        };
-        let now = converted(read, &so_far);
-        let blank = if comment.is_empty() { "" } else { " " };
-        written += &format!("{}{blank}{comment}{end}", now.text());
-        so_far.push(now);
-    }
-    written
-}
-
-/// What becomes of a line of the older format, after these of the present one. No request has changed the format yet.
-fn converted(line: Line, _so_far: &[Line]) -> Line {
-    line
 }

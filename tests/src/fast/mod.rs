@@ -2,18 +2,26 @@
 //! The benchmark holds the library's time to it.
 
 mod filling;
+mod issues;
 mod matching;
+mod order;
 mod run;
 mod sound;
+mod stock;
 
-use crate::calls::{Call, Measured, Opening, Reply};
-use crate::layout::{self, marks, positions, CODES, ISSUES, LENGTH, NOTICES, PAIRS, PARTICIPANTS, RECEIPTS, RUNS, TALLY, TERMS, TODAY, TRADES};
-use crate::paper::*;
+use crate::calls::{Call, Opening, Reply};
+use crate::layout::{self, *};
+use crate::paper::{are_sizes, Refusal, AMOUNT, BASKETS, CODE, MOST_ISSUES, MOST_RUNS, MOST_TRADES, NOTICE, POSITION, RECEIPT};
 use sound::*;
 
-type Book = [u64; LENGTH];
+/// A side that answers what the benchmark measures, and None for any other call, of which it then changes nothing.
+pub trait Measured {
+    fn measured(&self, call: &mut Call, book: &mut [u64]) -> Option<Reply>;
+}
 
 pub struct Fast;
+
+type Book = [u64; LENGTH];
 
 fn sound_book(book: &[u64]) -> Result<&Book, Reply> {
     let book: Option<&Book> = book.try_into().ok();
@@ -35,14 +43,15 @@ fn refuse(refusal: Refusal, given: bool) -> Result<(), Reply> {
 
 fn opened(o: &Opening, book: &mut [u64]) -> Result<Reply, Reply> {
     refuse(Refusal::Size, !are_sizes(o.participants, o.issues))?;
-    let (n, m) = (o.participants as usize, o.issues as usize);
+    let sizes = o.sizes();
+    let (n, m) = (sizes.participants, sizes.issues);
     let lengths = [o.codes.len(), o.terms.len(), o.receipts.len(), o.pairs.len(), book.len()];
-    refuse(Refusal::Size, lengths != [CODE * m, TERM * m, n * m, BASKETS * n * n, LENGTH])?;
+    refuse(Refusal::Size, lengths != [sizes.codes(), sizes.terms(), sizes.receipts(), sizes.pairs(), LENGTH])?;
     let mut codes = [0; CODE * MOST_ISSUES];
     for (cell, &byte) in codes.iter_mut().zip(&o.codes) {
         *cell = byte.into();
     }
-    let codes = &codes[..CODE * m];
+    let codes = &codes[..sizes.codes()];
     refuse(Refusal::Code, !codes_right(codes))?;
     refuse(Refusal::Term, !terms_fit(&o.terms))?;
     refuse(Refusal::Receipt, !at_most(&o.receipts, RECEIPT) || !marks_fit(&o.pairs, n, n))?;
@@ -50,13 +59,13 @@ fn opened(o: &Opening, book: &mut [u64]) -> Result<Reply, Reply> {
     book.fill(0);
     book[PARTICIPANTS] = o.participants;
     book[ISSUES] = o.issues;
-    book[CODES..][..codes.len()].copy_from_slice(codes);
-    book[TERMS..][..o.terms.len()].copy_from_slice(&o.terms);
-    for (p, row) in o.receipts.chunks_exact(m).enumerate() {
-        book[layout::row(RECEIPTS, p)..][..m].copy_from_slice(row);
-    }
-    for (at, row) in o.pairs.chunks_exact(n).enumerate() {
-        book[marks(PAIRS, at / n, at % n)..][..n].copy_from_slice(row);
+    book[layout::codes(m)].copy_from_slice(codes);
+    book[all_terms(m)].copy_from_slice(&o.terms);
+    for p in 0..n {
+        book[row(RECEIPTS, p, m)].copy_from_slice(&o.receipts[sizes.row(p)]);
+        for basket in 0..BASKETS {
+            book[marks(PAIRS, basket, p, n)].copy_from_slice(&o.pairs[sizes.marks(basket, p)]);
+        }
     }
     Ok(Reply::Accepted)
 }
@@ -68,8 +77,7 @@ fn traded(book: &mut [u64], seller: u64, buyer: u64, basket: u64, yen: u64) -> R
     refuse(Refusal::NotOfDay, seller >= n || buyer >= n || basket >= BASKETS as u64 || seller == buyer)?;
     refuse(Refusal::Amount, yen == 0 || yen > AMOUNT)?;
     refuse(Refusal::NoIssue, !is_tradable(book, basket as usize))?;
-    let row = positions(basket as usize);
-    let (seller, buyer) = (row + seller as usize, row + buyer as usize);
+    let [seller, buyer] = [seller, buyer].map(|participant| position(basket as usize, participant as usize));
     let sold = book[seller] as i64 + yen as i64;
     let bought = book[buyer] as i64 - yen as i64;
     refuse(Refusal::Position, sold > POSITION as i64 || bought < -(POSITION as i64))?;
@@ -92,7 +100,7 @@ fn noted(book: &mut [u64], participant: u64, issues: &[u64], lots: &[u64]) -> Re
         named |= 1 << issue;
     }
     refuse(Refusal::Lots, !at_most(lots, NOTICE))?;
-    let row = &mut book[layout::row(NOTICES, participant as usize)..][..m as usize];
+    let row = &mut book[row(NOTICES, participant as usize, m as usize)];
     row.fill(0);
     for (&issue, &lots) in issues.iter().zip(lots) {
         row[issue as usize] = lots;
@@ -112,16 +120,17 @@ fn ran(book: &mut [u64], draw: &[u64], matches: &mut [u64], lines: &mut [u64]) -
 
 fn closed(book: &[u64], receipts: &mut [u64], pairs: &mut [u64]) -> Result<Reply, Reply> {
     let book = sound_book(book)?;
-    let (n, m) = (book[PARTICIPANTS] as usize, book[ISSUES] as usize);
+    let sizes = Sizes::of(book);
+    let (n, m) = (sizes.participants, sizes.issues);
     refuse(Refusal::FewRuns, book[RUNS] < MOST_RUNS)?;
-    refuse(Refusal::ShortList, receipts.len() < n * m || pairs.len() < BASKETS * n * n)?;
-    for (p, to) in receipts.chunks_exact_mut(m).take(n).enumerate() {
-        for (cell, &lots) in to.iter_mut().zip(&book[layout::row(TALLY, p)..]) {
+    refuse(Refusal::ShortList, receipts.len() < sizes.receipts() || pairs.len() < sizes.pairs())?;
+    for p in 0..n {
+        for (cell, &lots) in receipts[sizes.row(p)].iter_mut().zip(&book[row(TALLY, p, m)]) {
             *cell = (lots as i64).max(0) as u64;
         }
-    }
-    for (at, to) in pairs.chunks_exact_mut(n).take(BASKETS * n).enumerate() {
-        to.copy_from_slice(&book[marks(TODAY, at / n, at % n)..][..n]);
+        for basket in 0..BASKETS {
+            pairs[sizes.marks(basket, p)].copy_from_slice(&book[marks(TODAY, basket, p, n)]);
+        }
     }
     Ok(Reply::Accepted)
 }

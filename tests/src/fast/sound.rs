@@ -1,8 +1,8 @@
 //! The ranges of opening data and the soundness of a book, in loops without a branch for each cell.
 
 use super::Book;
-use crate::layout::{self, positions, CODES, ISSUES, NOTICES, PAIRS, PARTICIPANTS, RECEIPTS, RUNS, TALLY, TERMS, TODAY, TRADES};
-use crate::paper::{self, *};
+use crate::layout::{all_marks, all_terms, codes, positions, row, Sizes, ISSUES, NOTICES, PAIRS, PARTICIPANTS, RECEIPTS, RUNS, TALLY, TODAY, TRADES};
+use crate::paper::*;
 
 /// The kinds of each basket, a bit to a kind.
 pub const KINDS: [u8; BASKETS] = {
@@ -18,10 +18,6 @@ pub const KINDS: [u8; BASKETS] = {
     }
     sets
 };
-
-pub fn are_sizes(participants: u64, issues: u64) -> bool {
-    paper::PARTICIPANTS.contains(&participants) && paper::ISSUES.contains(&issues)
-}
 
 /// The highest bit is set by a cell above the limit, which is below 2^63.
 pub fn at_most(cells: &[u64], limit: u64) -> bool {
@@ -82,7 +78,7 @@ pub fn codes_right(codes: &[u64]) -> bool {
 }
 
 pub fn terms_fit(terms: &[u64]) -> bool {
-    terms.chunks_exact(TERM).all(|issue| issue.iter().zip(&paper::TERMS).all(|(term, (_, range))| range.contains(term)))
+    terms.chunks_exact(TERM).all(|issue| issue.iter().zip(&TERM_RANGES).all(|(term, (_, range))| range.contains(term)))
 }
 
 /// Baskets of n rows of n marks, a stride apart: 0 or 1, and 0 on oneself.
@@ -99,33 +95,31 @@ pub fn marks_fit(marks: &[u64], n: usize, stride: usize) -> bool {
 
 /// Has the basket an unmarked issue?
 pub fn is_tradable(book: &Book, basket: usize) -> bool {
-    book[TERMS..][..TERM * book[ISSUES] as usize].chunks_exact(TERM).any(|t| KINDS[basket] >> t[KIND] & 1 == 1 && t[REDEEMED] | t[INTEREST] == 0)
+    book[all_terms(book[ISSUES] as usize)].chunks_exact(TERM).any(|t| KINDS[basket] >> t[KIND] & 1 == 1 && t[REDEEMED] | t[INTEREST] == 0)
 }
 
 fn positions_fit(book: &Book, n: usize, limit: u64) -> bool {
     (0..BASKETS).all(|basket| {
-        let row = &book[positions(basket)..][..n];
+        let row = &book[positions(basket, n)];
         let sum = row.iter().fold(0u64, |sum, &yen| sum.wrapping_add(yen));
         let any = row.iter().fold(0, |any, &yen| any | yen);
         within(row, limit) && sum == 0 && (any == 0 || is_tradable(book, basket))
     })
 }
 
-const MARKS: usize = BASKETS * MOST_PARTICIPANTS * MOST_PARTICIPANTS;
-
 pub fn is_sound(book: &Book) -> bool {
     let (runs, over) = (book[RUNS], book[RUNS] == MOST_RUNS);
     if !are_sizes(book[PARTICIPANTS], book[ISSUES]) || runs > MOST_RUNS || book[TRADES] > MOST_TRADES {
         return false;
     }
-    let (n, m) = (book[PARTICIPANTS] as usize, book[ISSUES] as usize);
-    let rows_fit = |table: usize, fits: &dyn Fn(&[u64]) -> bool| (0..n).all(|p| fits(&book[layout::row(table, p)..][..m]));
-    codes_right(&book[CODES..][..CODE * m])
-        && terms_fit(&book[TERMS..][..TERM * m])
+    let Sizes { participants: n, issues: m } = Sizes::of(book);
+    let rows_fit = |table: usize, fits: &dyn Fn(&[u64]) -> bool| (0..n).all(|p| fits(&book[row(table, p, m)]));
+    codes_right(&book[codes(m)])
+        && terms_fit(&book[all_terms(m)])
         && rows_fit(RECEIPTS, &|row| at_most(row, RECEIPT))
-        && marks_fit(&book[PAIRS..][..MARKS], n, MOST_PARTICIPANTS)
+        && marks_fit(&book[all_marks(PAIRS)], n, MOST_PARTICIPANTS)
         && positions_fit(book, n, if over { 0 } else { POSITION })
         && rows_fit(NOTICES, &|row| at_most(row, if over { 0 } else { NOTICE }))
-        && marks_fit(&book[TODAY..][..MARKS], n, MOST_PARTICIPANTS)
+        && marks_fit(&book[all_marks(TODAY)], n, MOST_PARTICIPANTS)
         && rows_fit(TALLY, &|row| within(row, runs * TALLY_A_RUN))
 }

@@ -6,12 +6,13 @@ mod checks;
 mod filling;
 mod matching;
 mod run;
+mod sound;
 mod value;
 
 use crate::calls::{Allocation, Call, Reply};
 use crate::paper::*;
 
-pub use checks::is_code;
+pub use sound::is_code;
 pub use value::value_at;
 
 struct Issue {

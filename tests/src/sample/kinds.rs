@@ -1,6 +1,6 @@
 //! What random days are like.
 
-use crate::paper::{AMOUNT, BASKETS, COMPOSITION, ISSUES, NOTICE, PARTICIPANTS, SHORTAGE, TARGET, TEN_YEAR, UNIT};
+use crate::paper::{AMOUNT, BASKETS, COMPOSITION, LOT, MOST_ISSUES, MOST_PARTICIPANTS, NOTICE, SHORTAGE, TARGET, TEN_YEAR, UNIT};
 
 /// What a day is like: its sizes, the kinds, lots and yen that are common in it, the most trades before a run, and how rare (one in so many) marks,
 /// pairs and wrong calls are.
@@ -18,8 +18,8 @@ pub struct Kind {
 
 const ANY: &[u64] = COMPOSITION[BASKETS - 1];
 const BILLION: u64 = 1_000_000_000;
-const MOST_PEOPLE: u64 = *PARTICIPANTS.end();
-const MOST_BONDS: u64 = *ISSUES.end();
+const MOST_PEOPLE: u64 = MOST_PARTICIPANTS as u64;
+const MOST_BONDS: u64 = MOST_ISSUES as u64;
 
 /// What most kinds of days share.
 const USUAL: Kind = Kind { participants: (2, 4), issues: (1, 5), kinds: ANY, lots: &[], yen: &[], trades: 4, mark: 20, pair: 6, wrong: 60 };
@@ -28,7 +28,7 @@ const USUAL: Kind = Kind { participants: (2, 4), issues: (1, 5), kinds: ANY, lot
 const SMALL: Kind = Kind {
     participants: (2, 5),
     lots: &[0, 1, 2, 2, 5, 199, 200, 201, 400],
-    yen: &[1, 50_000, SHORTAGE, 2 * SHORTAGE + 1],
+    yen: &[1, LOT, SHORTAGE, 2 * SHORTAGE + 1],
     mark: 12,
     wrong: 40,
     ..USUAL

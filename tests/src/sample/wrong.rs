@@ -1,19 +1,20 @@
 //! Calls that are given something wrong, or something at a bound.
 
 use crate::calls::{Call, Opening};
+use crate::layout::{LINES, MATCHES};
 use crate::paper::*;
 use crate::random::Random;
 
 /// The bounds of document 01 and of the machine: with their neighbours, and with either sign, they are the numbers to try.
 const BOUNDS: [u64; 24] = [
     0,
-    *PARTICIPANTS.start(),
+    FEWEST_PARTICIPANTS as u64,
     most(KIND),
     BASKETS as u64,
-    *PARTICIPANTS.end() - 1,
-    *PARTICIPANTS.end(),
-    *ISSUES.end() - 1,
-    *ISSUES.end(),
+    MOST_PARTICIPANTS as u64 - 1,
+    MOST_PARTICIPANTS as u64,
+    MOST_ISSUES as u64 - 1,
+    MOST_ISSUES as u64,
     MOST_MATCHES as u64,
     most(DAYS),
     least(PRICE),
