@@ -1,9 +1,8 @@
-//! One call on two sides, held together cell by cell; and what came of many calls.
+//! One call on two sides, held together cell by cell.
 
 use crate::calls::{Allocation, Call, Reply};
 use crate::layout::{Sizes, ISSUES};
 use crate::names::book_place;
-use crate::paper::REFUSALS;
 use crate::{library::Library, reference::Reference};
 
 /// The reference first: the library is held to it.
@@ -27,7 +26,7 @@ pub fn made(name: &'static str, call: &Call, book: &[u64], make: impl FnOnce(&mu
 /// The first place that differs, of the book and then of the lists, in words, with both numbers. A list goes by the day's sizes, where there is a
 /// book to tell them.
 fn difference(one: &Made, other: &Made) -> String {
-    let told = |place: String, a: u64, b: u64| format!("the {place}: {} {}, {} {}", one.name, a as i64, other.name, b as i64);
+    let told = |place: String, a: u64, b: u64| format!("{place}: {} {}, {} {}", one.name, a as i64, other.name, b as i64);
     if let Some(k) = first(&one.book, &other.book) {
         return told(book_place(k), one.book[k], other.book[k]);
     }
@@ -49,7 +48,7 @@ fn differ(expected: &Made, other: &Made, call: &Call, seed: u64) -> ! {
     if other.reply != expected.reply {
         panic!("seed {seed}: {call}\n{}: {}; {}: {}", expected.name, expected.reply, other.name, other.reply);
     }
-    panic!("seed {seed}: {call}\n{}; first difference at {}", expected.reply, difference(expected, other));
+    panic!("seed {seed}: {call}\n{}; first difference: {}", expected.reply, difference(expected, other));
 }
 
 /// Panics where two sides differ.
@@ -70,36 +69,4 @@ pub fn agreed(call: &Call, book: &mut Vec<u64>, seed: u64) -> (Reply, Call) {
     }
     *book = expected.book;
     (expected.reply, expected.call)
-}
-
-/// How often each reply came up.
-#[derive(Default)]
-pub struct Replies {
-    pub calls: u64,
-    refusals: [u64; REFUSALS.len()],
-}
-
-impl Replies {
-    pub fn count(&mut self, reply: Reply) {
-        self.calls += 1;
-        if let Reply::Refused(refusal) = reply {
-            self.refusals[refusal.index()] += 1;
-        }
-    }
-
-    pub fn accepted(&self) -> u64 {
-        self.calls - self.refusals.iter().sum::<u64>()
-    }
-
-    /// `refusals 1 to 16: [2, ..]`
-    pub fn told(&self) -> String {
-        format!("refusals 1 to {}: {:?}", REFUSALS.len(), self.refusals)
-    }
-
-    /// Calls that bring up too little are no evidence.
-    pub fn check(&self) {
-        for ((refusal, words), &times) in REFUSALS.iter().zip(&self.refusals) {
-            assert!(times > 0, "refusal {}, {words}, never came up", refusal.number());
-        }
-    }
 }

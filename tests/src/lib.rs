@@ -13,6 +13,7 @@ pub mod names;
 pub mod paper;
 pub mod random;
 pub mod reference;
+pub mod replies;
 pub mod sample;
 pub mod told;
 pub mod worst;

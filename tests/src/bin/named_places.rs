@@ -63,7 +63,7 @@ fn changed(mut before: Vec<u64>, cells: &[(usize, u64)], after: &[u64], call: &s
         before[at] = value;
     }
     if let Some(k) = (0..BOOK).find(|&k| before[k] != after[k]) {
-        panic!("{call}: by the header cell {k} is {}, the library has {} there; the layout calls it the {}", before[k], after[k], book_place(k));
+        panic!("{call}: by the header cell {k} is {}, the library has {} there; the layout calls it {}", before[k], after[k], book_place(k));
     }
 }
 

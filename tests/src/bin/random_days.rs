@@ -2,9 +2,10 @@
 //! `random_days SEED SIZE`: day k of seed s is day 0 of seed s + k.
 
 use allocation_tests::calls::{Call, Reply};
-use allocation_tests::compare::{agreed, Replies};
+use allocation_tests::compare::agreed;
 use allocation_tests::layout::LENGTH;
 use allocation_tests::random::{seed_and_size, Random};
+use allocation_tests::replies::Replies;
 use allocation_tests::sample::{self, KINDS};
 
 /// So many days bring up every refusal and every sort of match.

@@ -2,11 +2,12 @@
 //! No call may fault, every reply and cell is the reference's, and a refused call changes nothing. `random_memory SEED SIZE`: the size counts calls.
 
 use allocation_tests::calls::{Call, Opening};
-use allocation_tests::compare::{agreed, Replies};
+use allocation_tests::compare::agreed;
 use allocation_tests::layout::{position, positions, Sizes, CODES, LENGTH, POSITIONS, TRADES};
 use allocation_tests::names::TABLES;
 use allocation_tests::paper::{BASKETS, MOST_PARTICIPANTS, MOST_TRADES, POSITION};
 use allocation_tests::random::{seed_and_size, Random};
+use allocation_tests::replies::Replies;
 use allocation_tests::sample::{self, near_bound, Kind, KINDS};
 
 /// So many calls bring up every refusal.

@@ -53,7 +53,7 @@ impl Counted {
 
     /// The book says the same; positions sum to zero in a basket, and the tally in an issue.
     fn check(&self, book: &[u64]) {
-        let held = |place: usize, counted: i128| assert_eq!(i128::from(book[place] as i64), counted, "the {}", book_place(place));
+        let held = |place: usize, counted: i128| assert_eq!(i128::from(book[place] as i64), counted, "{}", book_place(place));
         for (basket, row) in self.positions.iter().enumerate() {
             row.iter().enumerate().for_each(|(p, &yen)| held(position(basket, p), yen));
             assert_eq!(row.iter().sum::<i128>(), 0, "the sum of positions of basket {basket}");
