@@ -72,7 +72,17 @@ pub const fn positions(basket: usize, participants: usize) -> Range<usize> {
 
 /// The mark of a pair in a basket, yesterday's (`PAIRS`) or today's (`TODAY`).
 pub const fn mark(table: usize, basket: usize, deliverer: usize, receiver: usize) -> usize {
-    table + SQUARE * basket + MOST_PARTICIPANTS * deliverer + receiver
+    table + SQUARE * basket + pair(deliverer, receiver)
+}
+
+/// The mark of a pair among a basket's marks.
+pub const fn pair(deliverer: usize, receiver: usize) -> usize {
+    MOST_PARTICIPANTS * deliverer + receiver
+}
+
+/// A basket's marks, those beyond the day's participants too.
+pub const fn square(table: usize, basket: usize) -> Range<usize> {
+    mark(table, basket, 0, 0)..mark(table, basket + 1, 0, 0)
 }
 
 /// A deliverer's marks with so many receivers.

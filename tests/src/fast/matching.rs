@@ -1,7 +1,6 @@
 //! The matches of a basket, in the order in which they are filled.
 
-use super::Book;
-use crate::layout::{mark, PAIRS};
+use crate::layout::pair;
 use crate::paper::MOST_PARTICIPANTS;
 
 /// A participant's number takes so many bits of a key.
@@ -45,21 +44,21 @@ impl Plan {
     }
 }
 
-/// The positions are those of the day's participants; the basket is told where yesterday's pairs count.
-pub fn plan(book: &Book, positions: &[u64], paired: Option<usize>, draw: &[u64]) -> Plan {
+/// The positions are those of the day's participants; the marks are the basket's of yesterday, where they count.
+pub fn plan(positions: &[u64], marks: Option<&[u64]>, draw: &[u64]) -> Plan {
     let n = positions.len();
     let mut left = [0i64; MOST_PARTICIPANTS];
     for (to, &yen) in left.iter_mut().zip(positions) {
         *to = yen as i64;
     }
     let mut plan = Plan::default();
-    if let Some(basket) = paired {
+    if let Some(marks) = marks {
         for deliverer in 0..n {
             for receiver in 0..n {
                 if left[deliverer] <= 0 {
                     break;
                 }
-                if book[mark(PAIRS, basket, deliverer, receiver)] == 1 && left[receiver] < 0 {
+                if marks[pair(deliverer, receiver)] == 1 && left[receiver] < 0 {
                     let amount = left[deliverer].min(-left[receiver]);
                     left[deliverer] -= amount;
                     left[receiver] += amount;

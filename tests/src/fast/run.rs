@@ -7,7 +7,7 @@ use super::order::{forced_issue, order_of, Order};
 use super::stock::{stock_of, Stock, NO_STOCK};
 use super::Book;
 use crate::calls::Reply;
-use crate::layout::{entry, mark, position, positions, row, NOTICES, PARTICIPANTS, RUNS, TALLY, TODAY};
+use crate::layout::{entry, mark, position, positions, row, square, NOTICES, PAIRS, PARTICIPANTS, RUNS, TALLY, TODAY};
 use crate::paper::*;
 
 /// The two lists, and how much of them is written.
@@ -82,7 +82,8 @@ pub fn run(book: &mut Book, draw: &[u64], matches: &mut [u64], lines: &mut [u64]
     for basket in 0..BASKETS {
         let row = &book[positions(basket, n)];
         if row.iter().any(|&yen| yen != 0) {
-            let plan = plan(book, row, (book[RUNS] == 0).then_some(basket), draw);
+            let yesterday = (book[RUNS] == 0).then(|| &book[square(PAIRS, basket)]);
+            let plan = plan(row, yesterday, draw);
             run_basket(book, basket, &issues, &plan, &mut stocks, &mut lists);
         }
     }
