@@ -7,8 +7,8 @@ cd "$(dirname "$0")"
 need cargo cargo
 need valgrind valgrind
 archive
-cargo build --offline --release --quiet --bin bench
-bench=target/release/bench
+cargo build --offline --profile measured --quiet --bin bench
+bench=target/measured/bench
 
 echo "$(grep -m 1 '^model name' /proc/cpuinfo | cut -d: -f2 | xargs), $(rustc --version | cut -d' ' -f1,2), release build"
 echo
@@ -24,7 +24,7 @@ echo "| Call | Library, instructions | Fast reference, instructions | Ratio |"
 echo "|---|---|---|---|"
 $bench names | while IFS=: read -r call name; do
     library=$(count "$name" library "allocation_$call")
-    fast=$(count "$name" fast "*Fast*Allocation>::$call")
+    fast=$(count "$name" fast "*::Fast::$call")
     echo "| $name | $library | $fast | $(awk "BEGIN { printf \"%.2f\", $library / $fast }") |"
     [ "$library" -le "$fast" ] || { echo "$name: more instructions than the fast reference" >&2; exit 1; }
 done

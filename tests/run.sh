@@ -18,12 +18,15 @@ cargo build --offline --release --quiet
 built=target/release
 $built/stored_days ../crates/allocate
 $built/stored_calls cases/calls.txt
+$built/named_places
+$built/convert_days ../crates/allocate/data/*.day
 # the random days on one core, the rest on the other
 $built/random_days "$seed" 20000 >../target/random_days 2>&1 &
 days=$!
 $built/random_memory "$seed" 1000000
 echo "under valgrind:"
 valgrind --quiet --error-exitcode=1 ../target/day
+valgrind --quiet --error-exitcode=1 $built/stored_calls cases/calls.txt
 valgrind --quiet --error-exitcode=1 $built/random_memory "$((seed + 1))" 20000
 $built/soak "$seed" 250
 ./performance.sh

@@ -3,7 +3,7 @@
 
 #include <stdio.h>
 
-enum { PARTICIPANTS = 2, ISSUES = 2, BASKET_C = 2 };
+enum { PARTICIPANTS = 2, ISSUES = 2, TERM = 6, BASKET_C = 2 };
 
 static uint64_t book[ALLOCATION_BOOK];
 static uint64_t matches[ALLOCATION_MATCHES];
@@ -25,6 +25,7 @@ static void expect_list(const char *what, const uint64_t *found, const uint64_t 
         expect(what, found[k], expected[k]);
 }
 
+/* where allocation.h has it */
 static uint64_t position(unsigned participant) {
     return book[ALLOCATION_POSITIONS + 12 * BASKET_C + participant];
 }
@@ -32,10 +33,10 @@ static uint64_t position(unsigned participant) {
 static void open_day(void) {
     static const char codes[] = "JP0000000018JP0000000026";
     /* kind 2, at par, no interest, no marks */
-    static const uint64_t terms[6 * ISSUES] = {2, 10000, 0, 0, 0, 0, 2, 10000, 0, 0, 0, 0};
+    static const uint64_t terms[TERM * ISSUES] = {2, 10000, 0, 0, 0, 0, 2, 10000, 0, 0, 0, 0};
     expect("a book's length", allocation_book_length(), ALLOCATION_BOOK);
     expect("opening with no list", allocation_open(PARTICIPANTS, ISSUES, NULL, 0, NULL, 0, NULL, 0, NULL, 0, NULL, 0), 1);
-    expect("opening", allocation_open(PARTICIPANTS, ISSUES, (const uint8_t *)codes, sizeof codes - 1, terms, 6 * ISSUES, receipts,
+    expect("opening", allocation_open(PARTICIPANTS, ISSUES, (const uint8_t *)codes, sizeof codes - 1, terms, TERM * ISSUES, receipts,
                                       PARTICIPANTS * ISSUES, pairs, ALLOCATION_BASKETS * PARTICIPANTS * PARTICIPANTS, book, ALLOCATION_BOOK),
            ALLOCATION_ACCEPTED);
 }

@@ -1,13 +1,30 @@
-//! A call with all that it is given, and what it comes to on one side: the library, the reference, the fast reference.
+//! A call with all that it is given, and a side that answers it. A call more is a case of `Call` with its words and its lists, and a case of
+//! `make` on each side.
+
+use crate::entries::{Line, Match};
+use crate::layout::{entry, Sizes};
+use crate::names::{Table, LINE_LIST, MATCH_LIST, PAIR_LIST, RECEIPT_LIST};
+use crate::paper::{Refusal, LINE, MATCH};
+use std::fmt::{self, Display, Formatter};
 
 #[derive(Clone, Copy, Debug, PartialEq, Eq)]
 pub enum Reply {
     Accepted,
     Ran { matches: usize, lines: usize },
-    Refused(u64),
+    Refused(Refusal),
 }
 
-#[derive(Clone, Debug, Default)]
+impl Display for Reply {
+    fn fmt(&self, f: &mut Formatter) -> fmt::Result {
+        match self {
+            Reply::Accepted => write!(f, "accepted"),
+            Reply::Ran { matches, lines } => write!(f, "ran with {matches} matches and {lines} lines"),
+            Reply::Refused(refusal) => write!(f, "refused {}", refusal.number()),
+        }
+    }
+}
+
+#[derive(Clone, Debug, Default, PartialEq, Eq)]
 pub struct Opening {
     pub participants: u64,
     pub issues: u64,
@@ -18,15 +35,20 @@ pub struct Opening {
 }
 
 impl Opening {
+    pub fn sizes(&self) -> Sizes {
+        Sizes { participants: self.participants as usize, issues: self.issues as usize }
+    }
+
     /// Takes the receipts and pairs that a close wrote.
-    pub fn follow(&mut self, [receipts, pairs]: [Vec<u64>; 2]) {
+    pub fn follow(&mut self, closed: &Call) {
+        let Call::Close { receipts, pairs } = closed else { panic!("no close: {closed}") };
         self.receipts = receipts[..self.receipts.len()].to_vec();
         self.pairs = pairs[..self.pairs.len()].to_vec();
     }
 }
 
-/// A run and a close have the lists that are lent to them, as they are before the call.
-#[derive(Clone, Debug)]
+/// The numbers and lists that a call is given. A list that it writes is here as it is before the call, and afterwards as the call left it.
+#[derive(Clone, Debug, PartialEq, Eq)]
 pub enum Call {
     Open(Opening),
     Trade { seller: u64, buyer: u64, basket: u64, yen: u64 },
@@ -35,45 +57,62 @@ pub enum Call {
     Close { receipts: Vec<u64>, pairs: Vec<u64> },
 }
 
+/// A side that answers every call.
 pub trait Allocation {
-    fn open(&self, opening: &Opening, book: &mut [u64]) -> Reply;
-    fn trade(&self, book: &mut [u64], seller: u64, buyer: u64, basket: u64, yen: u64) -> Reply;
-    fn notice(&self, book: &mut [u64], participant: u64, issues: &[u64], lots: &[u64]) -> Reply;
-    fn run(&self, book: &mut [u64], draw: &[u64], matches: &mut [u64], lines: &mut [u64]) -> Reply;
-    fn close(&self, book: &[u64], receipts: &mut [u64], pairs: &mut [u64]) -> Reply;
+    fn make(&self, call: &mut Call, book: &mut [u64]) -> Reply;
 }
 
-/// The reply, and the two lent lists as the call left them.
-#[derive(Clone, Debug, PartialEq, Eq)]
-pub struct Outcome {
-    pub reply: Reply,
-    pub lists: [Vec<u64>; 2],
+/// The call in words: its numbers, and of its lists how long they are.
+impl Display for Call {
+    fn fmt(&self, f: &mut Formatter) -> fmt::Result {
+        match self {
+            Call::Open(o) => {
+                let [codes, terms, receipts, pairs] = [o.codes.len(), o.terms.len(), o.receipts.len(), o.pairs.len()];
+                write!(f, "opening, participants {}, issues {}", o.participants, o.issues)?;
+                write!(f, "; sizes of lists: codes {codes}, terms {terms}, receipts {receipts}, pairs {pairs}")
+            }
+            Call::Trade { seller, buyer, basket, yen } => write!(f, "trade, seller {seller}, buyer {buyer}, basket {basket}, yen {yen}"),
+            Call::Notice { participant, issues, lots } => {
+                write!(f, "notice, participant {participant}; sizes of lists: issues {}, lots {}", issues.len(), lots.len())
+            }
+            Call::Run { draw, matches, lines } => {
+                write!(f, "run; sizes of lists: draw {}, matches {}, lines {}", draw.len(), matches.len(), lines.len())
+            }
+            Call::Close { receipts, pairs } => write!(f, "close; sizes of lists: receipts {}, pairs {}", receipts.len(), pairs.len()),
+        }
+    }
 }
 
 impl Call {
-    /// The two lists that are lent, as they are before the call.
-    pub fn lent(&self) -> [Vec<u64>; 2] {
+    /// What is called, without what it is given.
+    pub fn name(&self) -> &'static str {
         match self {
-            Call::Run { matches, lines, .. } => [matches.clone(), lines.clone()],
-            Call::Close { receipts, pairs } => [receipts.clone(), pairs.clone()],
-            _ => [vec![], vec![]],
+            Call::Open(_) => "opening",
+            Call::Trade { .. } => "trade",
+            Call::Notice { .. } => "notice",
+            Call::Run { .. } => "run",
+            Call::Close { .. } => "close",
         }
     }
 
-    /// Makes the call, with these lists lent.
-    pub fn make(&self, side: &dyn Allocation, book: &mut [u64], [first, second]: &mut [Vec<u64>; 2]) -> Reply {
+    /// The lists that the call writes, and the names of their places.
+    pub fn written(&self) -> Vec<(Table, &[u64])> {
         match self {
-            Call::Open(opening) => side.open(opening, book),
-            Call::Trade { seller, buyer, basket, yen } => side.trade(book, *seller, *buyer, *basket, *yen),
-            Call::Notice { participant, issues, lots } => side.notice(book, *participant, issues, lots),
-            Call::Run { draw, .. } => side.run(book, draw, first, second),
-            Call::Close { .. } => side.close(book, first, second),
+            Call::Run { matches, lines, .. } => vec![(MATCH_LIST, matches), (LINE_LIST, lines)],
+            Call::Close { receipts, pairs } => vec![(RECEIPT_LIST, receipts), (PAIR_LIST, pairs)],
+            Call::Open(_) | Call::Trade { .. } | Call::Notice { .. } => vec![],
         }
     }
-}
 
-pub fn outcome(side: &dyn Allocation, call: &Call, book: &mut [u64]) -> Outcome {
-    let mut lists = call.lent();
-    let reply = call.make(side, book, &mut lists);
-    Outcome { reply, lists }
+    /// The matches and lines of a call that ran.
+    pub fn entries(&self, reply: Reply) -> (Vec<Match>, Vec<Line>) {
+        match (self, reply) {
+            (Call::Run { matches, lines, .. }, Reply::Ran { matches: matched, lines: lined }) => {
+                let all_matches = (0..matched).map(|k| Match::read(&matches[entry(MATCH, k)]));
+                let all_lines = (0..lined).map(|k| Line::read(&lines[entry(LINE, k)]));
+                (all_matches.collect(), all_lines.collect())
+            }
+            _ => (vec![], vec![]),
+        }
+    }
 }

@@ -1,6 +1,8 @@
 //! A safe wrapper over the exports of include/allocation.h.
 
-use crate::calls::{Allocation, Opening, Reply};
+use crate::calls::{Allocation, Call, Reply};
+use crate::header;
+use crate::paper::Refusal;
 
 mod exports {
     #[allow(clippy::too_many_arguments)]
@@ -56,67 +58,45 @@ pub fn book_length() -> usize {
     unsafe { exports::allocation_book_length() as usize }
 }
 
-/// 0 accepted, 1 to 16 a refusal, 2^32 + matches × 2^16 + lines a run.
+/// 0 accepted, a refusal's number, or 2^32 + matches × 2^16 + lines of a run.
 fn reply(number: u64) -> Reply {
-    match number {
-        0 => Reply::Accepted,
-        1..=16 => Reply::Refused(number),
-        _ => {
-            assert_eq!(number >> 32, 1, "{number} is no reply");
-            Reply::Ran { matches: (number >> 16 & 0xffff) as usize, lines: (number & 0xffff) as usize }
-        }
+    if number == header::ACCEPTED as u64 {
+        Reply::Accepted
+    } else if number >> 32 == 1 {
+        Reply::Ran { matches: (number >> 16 & 0xffff) as usize, lines: (number & 0xffff) as usize }
+    } else {
+        Reply::Refused(Refusal::of(number).unwrap_or_else(|| panic!("{number} is no reply")))
     }
 }
 
 pub struct Library;
 
-// SAFETY, of every call below: a slice is readable, or where it is mutable writable by this call alone, over its length; no two overlap
 impl Allocation for Library {
-    fn open(&self, o: &Opening, book: &mut [u64]) -> Reply {
+    #[rustfmt::skip] // a pointer stands beside its count
+    fn make(&self, call: &mut Call, book: &mut [u64]) -> Reply {
+        // SAFETY: a slice is readable, or where it is mutable writable by this call alone, over its length; no two overlap
         reply(unsafe {
-            exports::allocation_open(
-                o.participants,
-                o.issues,
-                o.codes.as_ptr(),
-                o.codes.len(),
-                o.terms.as_ptr(),
-                o.terms.len(),
-                o.receipts.as_ptr(),
-                o.receipts.len(),
-                o.pairs.as_ptr(),
-                o.pairs.len(),
-                book.as_mut_ptr(),
-                book.len(),
-            )
+            match call {
+                Call::Open(o) => exports::allocation_open(
+                    o.participants, o.issues,
+                    o.codes.as_ptr(), o.codes.len(), o.terms.as_ptr(), o.terms.len(),
+                    o.receipts.as_ptr(), o.receipts.len(), o.pairs.as_ptr(), o.pairs.len(),
+                    book.as_mut_ptr(), book.len(),
+                ),
+                Call::Trade { seller, buyer, basket, yen } => {
+                    exports::allocation_trade(book.as_mut_ptr(), book.len(), *seller, *buyer, *basket, *yen)
+                }
+                Call::Notice { participant, issues, lots } => exports::allocation_notice(
+                    book.as_mut_ptr(), book.len(), *participant, issues.as_ptr(), issues.len(), lots.as_ptr(), lots.len(),
+                ),
+                Call::Run { draw, matches, lines } => exports::allocation_run(
+                    book.as_mut_ptr(), book.len(), draw.as_ptr(), draw.len(),
+                    matches.as_mut_ptr(), matches.len(), lines.as_mut_ptr(), lines.len(),
+                ),
+                Call::Close { receipts, pairs } => exports::allocation_close(
+                    book.as_ptr(), book.len(), receipts.as_mut_ptr(), receipts.len(), pairs.as_mut_ptr(), pairs.len(),
+                ),
+            }
         })
-    }
-
-    fn trade(&self, book: &mut [u64], seller: u64, buyer: u64, basket: u64, yen: u64) -> Reply {
-        reply(unsafe { exports::allocation_trade(book.as_mut_ptr(), book.len(), seller, buyer, basket, yen) })
-    }
-
-    fn notice(&self, book: &mut [u64], participant: u64, issues: &[u64], lots: &[u64]) -> Reply {
-        reply(unsafe {
-            exports::allocation_notice(book.as_mut_ptr(), book.len(), participant, issues.as_ptr(), issues.len(), lots.as_ptr(), lots.len())
-        })
-    }
-
-    fn run(&self, book: &mut [u64], draw: &[u64], matches: &mut [u64], lines: &mut [u64]) -> Reply {
-        reply(unsafe {
-            exports::allocation_run(
-                book.as_mut_ptr(),
-                book.len(),
-                draw.as_ptr(),
-                draw.len(),
-                matches.as_mut_ptr(),
-                matches.len(),
-                lines.as_mut_ptr(),
-                lines.len(),
-            )
-        })
-    }
-
-    fn close(&self, book: &[u64], receipts: &mut [u64], pairs: &mut [u64]) -> Reply {
-        reply(unsafe { exports::allocation_close(book.as_ptr(), book.len(), receipts.as_mut_ptr(), receipts.len(), pairs.as_mut_ptr(), pairs.len()) })
     }
 }

@@ -1,26 +1,22 @@
-//! What a match is filled with, by closed forms on rates: a lot's value in 730ths of a yen.
+//! What a match is filled with, by closed forms on rates: a lot's value in parts of a yen, 730 to one.
 
 use super::matching::Matched;
-use crate::layout::MOST_ISSUES;
-
-const UNIT: u64 = 100_000;
-const TARGET: u64 = 5_000_000_000;
-const SHORTAGE: u64 = 10_000_000;
+use crate::paper::{INTEREST_DIVISOR, MOST_ISSUES, SHORTAGE, TARGET, UNIT};
 
 pub type Row = [u64; MOST_ISSUES];
 
 pub fn value(rate: u64, lots: u64) -> u64 {
-    lots * rate / 730
+    lots * rate / INTEREST_DIVISOR
 }
 
 /// The fewest lots of that value or more.
 fn fewest(rate: u64, yen: u64) -> u64 {
-    (730 * yen).div_ceil(rate)
+    (INTEREST_DIVISOR * yen).div_ceil(rate)
 }
 
 /// The most lots of that value or less.
 fn most(rate: u64, yen: u64) -> u64 {
-    (730 * yen + 729) / rate
+    (INTEREST_DIVISOR * (yen + 1) - 1) / rate
 }
 
 /// The lots of a match, and what they are worth.

@@ -1,6 +1,11 @@
 //! The matches of a basket, in the order in which they are filled.
 
-use crate::layout::MOST_PARTICIPANTS;
+use crate::layout::pair;
+use crate::paper::MOST_PARTICIPANTS;
+
+/// A participant's number takes so many bits of a key.
+const BITS: u32 = 4;
+const MASK: i64 = (1 << BITS) - 1;
 
 #[derive(Clone, Copy, Default)]
 pub struct Matched {
@@ -39,7 +44,7 @@ impl Plan {
     }
 }
 
-/// The positions are those of the day's participants; the marks are yesterday's, where they count.
+/// The positions are those of the day's participants; the marks are the basket's of yesterday, where they count.
 pub fn plan(positions: &[u64], marks: Option<&[u64]>, draw: &[u64]) -> Plan {
     let n = positions.len();
     let mut left = [0i64; MOST_PARTICIPANTS];
@@ -53,7 +58,7 @@ pub fn plan(positions: &[u64], marks: Option<&[u64]>, draw: &[u64]) -> Plan {
                 if left[deliverer] <= 0 {
                     break;
                 }
-                if marks[MOST_PARTICIPANTS * deliverer + receiver] == 1 && left[receiver] < 0 {
+                if marks[pair(deliverer, receiver)] == 1 && left[receiver] < 0 {
                     let amount = left[deliverer].min(-left[receiver]);
                     left[deliverer] -= amount;
                     left[receiver] += amount;
@@ -66,14 +71,14 @@ pub fn plan(positions: &[u64], marks: Option<&[u64]>, draw: &[u64]) -> Plan {
     let mut keys = [0; MOST_PARTICIPANTS];
     let mut deliverers = 0;
     for p in (0..n).filter(|&p| left[p] > 0) {
-        keys[deliverers] = left[p] << 4 | (15 - p) as i64;
+        keys[deliverers] = left[p] << BITS | (MASK - p as i64);
         deliverers += 1;
     }
     keys[..deliverers].sort_unstable();
     // receivers are met to the end in the drawn order, so those before the next are done
     let mut next = 0;
     for key in keys[..deliverers].iter().rev() {
-        let deliverer = 15 - (key & 15) as usize;
+        let deliverer = (MASK - (key & MASK)) as usize;
         let first = plan.count;
         while left[deliverer] > 0 {
             let receiver = draw[next] as usize;

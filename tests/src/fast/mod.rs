@@ -2,21 +2,30 @@
 //! The benchmark holds the library's time to it.
 
 mod filling;
+mod issues;
 mod matching;
+mod order;
 mod run;
 mod sound;
+mod stock;
 
-use crate::calls::{Allocation, Opening, Reply};
+use crate::calls::{Call, Opening, Reply};
 use crate::layout::{self, *};
+use crate::paper::{are_sizes, Refusal, AMOUNT, BASKETS, CODE, MOST_ISSUES, MOST_RUNS, MOST_TRADES, NOTICE, POSITION, RECEIPT};
 use sound::*;
 
-type Book = [u64; LENGTH];
+/// A side that answers what the benchmark measures, and None for any other call, of which it then changes nothing.
+pub trait Measured {
+    fn measured(&self, call: &mut Call, book: &mut [u64]) -> Option<Reply>;
+}
 
 pub struct Fast;
 
+type Book = [u64; LENGTH];
+
 fn sound_book(book: &[u64]) -> Result<&Book, Reply> {
     let book: Option<&Book> = book.try_into().ok();
-    book.filter(|book| is_sound(book)).ok_or(Reply::Refused(5))
+    book.filter(|book| is_sound(book)).ok_or(Reply::Refused(Refusal::Unsound))
 }
 
 fn sound_book_mut(book: &mut [u64]) -> Result<&mut Book, Reply> {
@@ -24,38 +33,39 @@ fn sound_book_mut(book: &mut [u64]) -> Result<&mut Book, Reply> {
     Ok(book.try_into().expect("a book's length"))
 }
 
-fn refuse(number: u64, given: bool) -> Result<(), Reply> {
+fn refuse(refusal: Refusal, given: bool) -> Result<(), Reply> {
     if given {
-        Err(Reply::Refused(number))
+        Err(Reply::Refused(refusal))
     } else {
         Ok(())
     }
 }
 
 fn opened(o: &Opening, book: &mut [u64]) -> Result<Reply, Reply> {
-    refuse(1, !are_sizes(o.participants, o.issues))?;
-    let (n, m) = (o.participants as usize, o.issues as usize);
+    refuse(Refusal::Size, !are_sizes(o.participants, o.issues))?;
+    let sizes = o.sizes();
+    let (n, m) = (sizes.participants, sizes.issues);
     let lengths = [o.codes.len(), o.terms.len(), o.receipts.len(), o.pairs.len(), book.len()];
-    refuse(1, lengths != [CODE * m, TERM * m, n * m, BASKETS * n * n, LENGTH])?;
+    refuse(Refusal::Size, lengths != [sizes.codes(), sizes.terms(), sizes.receipts(), sizes.pairs(), LENGTH])?;
     let mut codes = [0; CODE * MOST_ISSUES];
     for (cell, &byte) in codes.iter_mut().zip(&o.codes) {
         *cell = byte.into();
     }
-    let codes = &codes[..CODE * m];
-    refuse(2, !codes_right(codes))?;
-    refuse(3, !terms_fit(&o.terms))?;
-    refuse(4, !at_most(&o.receipts, RECEIPT) || !marks_fit(&o.pairs, n, n))?;
+    let codes = &codes[..sizes.codes()];
+    refuse(Refusal::Code, !codes_right(codes))?;
+    refuse(Refusal::Term, !terms_fit(&o.terms))?;
+    refuse(Refusal::Receipt, !at_most(&o.receipts, RECEIPT) || !marks_fit(&o.pairs, n, n))?;
 
     book.fill(0);
     book[PARTICIPANTS] = o.participants;
     book[ISSUES] = o.issues;
-    book[CODES..][..codes.len()].copy_from_slice(codes);
-    book[TERMS..][..o.terms.len()].copy_from_slice(&o.terms);
-    for (p, row) in o.receipts.chunks_exact(m).enumerate() {
-        book[layout::row(RECEIPTS, p)..][..m].copy_from_slice(row);
-    }
-    for (at, row) in o.pairs.chunks_exact(n).enumerate() {
-        book[marks(PAIRS, at / n, at % n)..][..n].copy_from_slice(row);
+    book[layout::codes(m)].copy_from_slice(codes);
+    book[all_terms(m)].copy_from_slice(&o.terms);
+    for p in 0..n {
+        book[row(RECEIPTS, p, m)].copy_from_slice(&o.receipts[sizes.row(p)]);
+        for basket in 0..BASKETS {
+            book[marks(PAIRS, basket, p, n)].copy_from_slice(&o.pairs[sizes.marks(basket, p)]);
+        }
     }
     Ok(Reply::Accepted)
 }
@@ -63,16 +73,15 @@ fn opened(o: &Opening, book: &mut [u64]) -> Result<Reply, Reply> {
 fn traded(book: &mut [u64], seller: u64, buyer: u64, basket: u64, yen: u64) -> Result<Reply, Reply> {
     let book = sound_book_mut(book)?;
     let n = book[PARTICIPANTS];
-    refuse(6, book[RUNS] == 3)?;
-    refuse(7, seller >= n || buyer >= n || basket >= BASKETS as u64 || seller == buyer)?;
-    refuse(8, yen == 0 || yen > AMOUNT)?;
-    refuse(9, !is_tradable(book, basket as usize))?;
-    let row = positions(basket as usize);
-    let (seller, buyer) = (row + seller as usize, row + buyer as usize);
+    refuse(Refusal::ThreeRuns, book[RUNS] == MOST_RUNS)?;
+    refuse(Refusal::NotOfDay, seller >= n || buyer >= n || basket >= BASKETS as u64 || seller == buyer)?;
+    refuse(Refusal::Amount, yen == 0 || yen > AMOUNT)?;
+    refuse(Refusal::NoIssue, !is_tradable(book, basket as usize))?;
+    let [seller, buyer] = [seller, buyer].map(|participant| position(basket as usize, participant as usize));
     let sold = book[seller] as i64 + yen as i64;
     let bought = book[buyer] as i64 - yen as i64;
-    refuse(10, sold > POSITION as i64 || bought < -(POSITION as i64))?;
-    refuse(11, book[TRADES] == MOST_TRADES)?;
+    refuse(Refusal::Position, sold > POSITION as i64 || bought < -(POSITION as i64))?;
+    refuse(Refusal::Trades, book[TRADES] == MOST_TRADES)?;
     book[seller] = sold as u64;
     book[buyer] = bought as u64;
     book[TRADES] += 1;
@@ -82,16 +91,16 @@ fn traded(book: &mut [u64], seller: u64, buyer: u64, basket: u64, yen: u64) -> R
 fn noted(book: &mut [u64], participant: u64, issues: &[u64], lots: &[u64]) -> Result<Reply, Reply> {
     let book = sound_book_mut(book)?;
     let m = book[ISSUES];
-    refuse(6, book[RUNS] == 3)?;
-    refuse(7, participant >= book[PARTICIPANTS])?;
-    refuse(12, issues.is_empty() || issues.len() != lots.len())?;
+    refuse(Refusal::ThreeRuns, book[RUNS] == MOST_RUNS)?;
+    refuse(Refusal::NotOfDay, participant >= book[PARTICIPANTS])?;
+    refuse(Refusal::Entries, issues.is_empty() || issues.len() != lots.len())?;
     let mut named = 0u32;
     for &issue in issues {
-        refuse(12, issue >= m || named >> issue & 1 == 1)?;
+        refuse(Refusal::Entries, issue >= m || named >> issue & 1 == 1)?;
         named |= 1 << issue;
     }
-    refuse(13, !at_most(lots, NOTICE))?;
-    let row = &mut book[layout::row(NOTICES, participant as usize)..][..m as usize];
+    refuse(Refusal::Lots, !at_most(lots, NOTICE))?;
+    let row = &mut book[row(NOTICES, participant as usize, m as usize)];
     row.fill(0);
     for (&issue, &lots) in issues.iter().zip(lots) {
         row[issue as usize] = lots;
@@ -102,25 +111,26 @@ fn noted(book: &mut [u64], participant: u64, issues: &[u64], lots: &[u64]) -> Re
 fn ran(book: &mut [u64], draw: &[u64], matches: &mut [u64], lines: &mut [u64]) -> Result<Reply, Reply> {
     let book = sound_book_mut(book)?;
     let n = book[PARTICIPANTS];
-    refuse(6, book[RUNS] == 3)?;
+    refuse(Refusal::ThreeRuns, book[RUNS] == MOST_RUNS)?;
     let named = draw.iter().fold(0u64, |named, &p| named | if p < n { 1 << p } else { 0 });
-    refuse(14, draw.len() as u64 != n || named != (1 << n) - 1)?;
-    refuse(15, matches.len() < MATCHES || lines.len() < LINES)?;
+    refuse(Refusal::Draw, draw.len() as u64 != n || named != (1 << n) - 1)?;
+    refuse(Refusal::ShortList, matches.len() < MATCHES || lines.len() < LINES)?;
     Ok(run::run(book, draw, matches, lines))
 }
 
 fn closed(book: &[u64], receipts: &mut [u64], pairs: &mut [u64]) -> Result<Reply, Reply> {
     let book = sound_book(book)?;
-    let (n, m) = (book[PARTICIPANTS] as usize, book[ISSUES] as usize);
-    refuse(16, book[RUNS] < 3)?;
-    refuse(15, receipts.len() < n * m || pairs.len() < BASKETS * n * n)?;
-    for (p, to) in receipts.chunks_exact_mut(m).take(n).enumerate() {
-        for (cell, &lots) in to.iter_mut().zip(&book[layout::row(TALLY, p)..]) {
+    let sizes = Sizes::of(book);
+    let (n, m) = (sizes.participants, sizes.issues);
+    refuse(Refusal::FewRuns, book[RUNS] < MOST_RUNS)?;
+    refuse(Refusal::ShortList, receipts.len() < sizes.receipts() || pairs.len() < sizes.pairs())?;
+    for p in 0..n {
+        for (cell, &lots) in receipts[sizes.row(p)].iter_mut().zip(&book[row(TALLY, p, m)]) {
             *cell = (lots as i64).max(0) as u64;
         }
-    }
-    for (at, to) in pairs.chunks_exact_mut(n).take(BASKETS * n).enumerate() {
-        to.copy_from_slice(&book[marks(TODAY, at / n, at % n)..][..n]);
+        for basket in 0..BASKETS {
+            pairs[sizes.marks(basket, p)].copy_from_slice(&book[marks(TODAY, basket, p, n)]);
+        }
     }
     Ok(Reply::Accepted)
 }
@@ -130,29 +140,41 @@ fn either(result: Result<Reply, Reply>) -> Reply {
 }
 
 // not inlined: callgrind counts each by its name
-impl Allocation for Fast {
+impl Fast {
     #[inline(never)]
-    fn open(&self, opening: &Opening, book: &mut [u64]) -> Reply {
+    fn open(opening: &Opening, book: &mut [u64]) -> Reply {
         either(opened(opening, book))
     }
 
     #[inline(never)]
-    fn trade(&self, book: &mut [u64], seller: u64, buyer: u64, basket: u64, yen: u64) -> Reply {
+    fn trade(book: &mut [u64], seller: u64, buyer: u64, basket: u64, yen: u64) -> Reply {
         either(traded(book, seller, buyer, basket, yen))
     }
 
     #[inline(never)]
-    fn notice(&self, book: &mut [u64], participant: u64, issues: &[u64], lots: &[u64]) -> Reply {
+    fn notice(book: &mut [u64], participant: u64, issues: &[u64], lots: &[u64]) -> Reply {
         either(noted(book, participant, issues, lots))
     }
 
     #[inline(never)]
-    fn run(&self, book: &mut [u64], draw: &[u64], matches: &mut [u64], lines: &mut [u64]) -> Reply {
+    fn run(book: &mut [u64], draw: &[u64], matches: &mut [u64], lines: &mut [u64]) -> Reply {
         either(ran(book, draw, matches, lines))
     }
 
     #[inline(never)]
-    fn close(&self, book: &[u64], receipts: &mut [u64], pairs: &mut [u64]) -> Reply {
+    fn close(book: &[u64], receipts: &mut [u64], pairs: &mut [u64]) -> Reply {
         either(closed(book, receipts, pairs))
+    }
+}
+
+impl Measured for Fast {
+    fn measured(&self, call: &mut Call, book: &mut [u64]) -> Option<Reply> {
+        Some(match call {
+            Call::Open(opening) => Fast::open(opening, book),
+            Call::Trade { seller, buyer, basket, yen } => Fast::trade(book, *seller, *buyer, *basket, *yen),
+            Call::Notice { participant, issues, lots } => Fast::notice(book, *participant, issues, lots),
+            Call::Run { draw, matches, lines } => Fast::run(book, draw, matches, lines),
+            Call::Close { receipts, pairs } => Fast::close(book, receipts, pairs),
+        })
     }
 }

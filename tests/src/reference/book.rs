@@ -1,7 +1,9 @@
 //! A day out of the book and back. Places beyond the day's sizes are neither read nor written.
 
-use super::{checks, Day, Issue, Table};
-use crate::layout::{self, *};
+use super::{sound, Day, Issue, Table};
+use crate::layout::*;
+use crate::paper::{are_sizes, Refusal, BASKETS};
+use std::ops::Range;
 
 fn plain(cell: u64) -> i128 {
     cell.into()
@@ -11,26 +13,26 @@ fn signed(cell: u64) -> i128 {
     (cell as i64).into()
 }
 
-fn cells(book: &[u64], at: usize, length: usize, number: fn(u64) -> i128) -> Vec<i128> {
-    book[at..at + length].iter().map(|&cell| number(cell)).collect()
+fn cells(book: &[u64], places: Range<usize>, number: fn(u64) -> i128) -> Vec<i128> {
+    book[places].iter().map(|&cell| number(cell)).collect()
 }
 
 /// None where the length is not a book's, or the sizes are not a day's.
 fn read(book: &[u64]) -> Option<Day> {
-    if book.len() != LENGTH || !checks::are_sizes(book[PARTICIPANTS], book[ISSUES]) {
+    if book.len() != LENGTH || !are_sizes(book[PARTICIPANTS], book[ISSUES]) {
         return None;
     }
-    let (n, m) = (book[PARTICIPANTS] as usize, book[ISSUES] as usize);
-    let by_participant = |table: usize, number| -> Table { (0..n).map(|p| cells(book, layout::row(table, p), m, number)).collect() };
+    let Sizes { participants: n, issues: m } = Sizes::of(book);
+    let by_participant = |table: usize, number| -> Table { (0..n).map(|p| cells(book, row(table, p, m), number)).collect() };
     let by_basket = |table: usize| -> Vec<Table> {
-        (0..BASKETS).map(|basket| (0..n).map(|p| cells(book, marks(table, basket, p), n, plain)).collect()).collect()
+        (0..BASKETS).map(|basket| (0..n).map(|p| cells(book, marks(table, basket, p, n), plain)).collect()).collect()
     };
     Some(Day {
         participants: n,
-        issues: (0..m).map(|i| issue(&book[CODES + CODE * i..][..CODE], &book[TERMS + TERM * i..][..TERM])).collect(),
+        issues: (0..m).map(|i| issue(&book[code(i)], &book[terms(i)])).collect(),
         receipts: by_participant(RECEIPTS, plain),
         yesterday: by_basket(PAIRS),
-        positions: (0..BASKETS).map(|basket| cells(book, positions(basket), n, signed)).collect(),
+        positions: (0..BASKETS).map(|basket| cells(book, positions(basket, n), signed)).collect(),
         notices: by_participant(NOTICES, plain),
         runs: book[RUNS],
         trades: book[TRADES],
@@ -40,17 +42,16 @@ fn read(book: &[u64]) -> Option<Day> {
 }
 
 pub fn issue(code: &[u64], terms: &[u64]) -> Issue {
-    let term = |t: usize| plain(terms[t]);
-    Issue { code: code.to_vec(), kind: term(0), price: term(1), coupon: term(2), days: term(3), redeemed: term(4), interest: term(5) }
+    Issue { code: code.to_vec(), terms: std::array::from_fn(|term| plain(terms[term])) }
 }
 
-/// The day of a sound book, or refusal 5.
-pub fn sound_day(book: &[u64]) -> Result<Day, u64> {
-    read(book).filter(checks::is_sound).ok_or(5)
+/// The day of a sound book.
+pub fn sound_day(book: &[u64]) -> Result<Day, Refusal> {
+    read(book).filter(sound::is_sound).ok_or(Refusal::Unsound)
 }
 
-fn write_row(book: &mut [u64], at: usize, row: &[i128]) {
-    for (cell, &number) in book[at..].iter_mut().zip(row) {
+fn put(book: &mut [u64], places: Range<usize>, numbers: &[i128]) {
+    for (cell, &number) in book[places].iter_mut().zip(numbers) {
         *cell = number as u64;
     }
 }
@@ -61,20 +62,20 @@ pub fn write(day: &Day, book: &mut [u64]) {
     book[RUNS] = day.runs;
     book[TRADES] = day.trades;
     for (i, issue) in day.issues.iter().enumerate() {
-        book[CODES + CODE * i..][..CODE].copy_from_slice(&issue.code);
-        let terms = [issue.kind, issue.price, issue.coupon, issue.days, issue.redeemed, issue.interest];
-        write_row(book, TERMS + TERM * i, &terms);
+        book[code(i)].copy_from_slice(&issue.code);
+        put(book, terms(i), &issue.terms);
     }
-    for p in 0..day.participants {
-        write_row(book, layout::row(RECEIPTS, p), &day.receipts[p]);
-        write_row(book, layout::row(NOTICES, p), &day.notices[p]);
-        write_row(book, layout::row(TALLY, p), &day.tally[p]);
+    let (n, m) = (day.participants, day.issues.len());
+    for p in 0..n {
+        put(book, row(RECEIPTS, p, m), &day.receipts[p]);
+        put(book, row(NOTICES, p, m), &day.notices[p]);
+        put(book, row(TALLY, p, m), &day.tally[p]);
     }
     for basket in 0..BASKETS {
-        write_row(book, positions(basket), &day.positions[basket]);
-        for p in 0..day.participants {
-            write_row(book, marks(PAIRS, basket, p), &day.yesterday[basket][p]);
-            write_row(book, marks(TODAY, basket, p), &day.today[basket][p]);
+        put(book, positions(basket, n), &day.positions[basket]);
+        for p in 0..n {
+            put(book, marks(PAIRS, basket, p, n), &day.yesterday[basket][p]);
+            put(book, marks(TODAY, basket, p, n), &day.today[basket][p]);
         }
     }
 }

@@ -3,11 +3,12 @@
 use super::matching::Matched;
 use super::value::{least, with_more, worth};
 use super::Day;
+use crate::paper::{self, FIFTH, MOST_RUNS, REDEEMED, TEN_YEAR};
 use std::cmp::Reverse;
 
-const UNIT: i128 = 100_000;
-const TARGET: i128 = 5_000_000_000;
-const SHORTAGE: i128 = 10_000_000;
+const UNIT: i128 = paper::UNIT as i128;
+const TARGET: i128 = paper::TARGET as i128;
+const SHORTAGE: i128 = paper::SHORTAGE as i128;
 
 /// What a deliverer has in a run: lots by issue.
 #[derive(Clone)]
@@ -31,7 +32,7 @@ pub fn allocable(day: &Day, participant: usize) -> Vec<i128> {
     let of = |i: usize| {
         let (issue, notified) = (&day.issues[i], day.notices[participant][i]);
         if day.runs == 0 {
-            if issue.redeemed == 1 {
+            if issue.terms[REDEEMED] == 1 {
                 0
             } else {
                 notified.min(day.receipts[participant][i])
@@ -106,14 +107,10 @@ fn forced_issue(day: &Day, basket: usize, deliverer: usize) -> usize {
     if notified[most] > 0 {
         return most;
     }
-    let ten_year: Vec<usize> = unmarked.iter().copied().filter(|&i| day.issues[i].kind == 2).collect();
+    let ten_year: Vec<usize> = unmarked.iter().copied().filter(|&i| day.issues[i].is_of(TEN_YEAR)).collect();
     let set = if ten_year.is_empty() { unmarked } else { ten_year };
     // "the fifth largest ISIN .. Fewer than five: the smallest"
-    if set.len() < 5 {
-        set[0]
-    } else {
-        set[set.len() - 5]
-    }
+    set[set.len().saturating_sub(FIFTH)]
 }
 
 pub fn fill(day: &Day, basket: usize, matched: &Matched, stock: &Stock) -> Filled {
@@ -128,7 +125,7 @@ pub fn fill(day: &Day, basket: usize, matched: &Matched, stock: &Stock) -> Fille
     if short <= 0 {
         return Filled { covered: matched.amount, lots: fill_for(matched.amount), forced: None };
     }
-    if day.runs == 2 {
+    if day.runs + 1 == MOST_RUNS {
         let issue = forced_issue(day, basket, matched.deliverer);
         let worth = with_more(day, &usable, issue);
         let further = least(|n| worth(n) >= matched.amount);

@@ -4,16 +4,16 @@ use super::filling::{allocable, fill, Filled, Stock};
 use super::matching::{matches, Matched};
 use super::Day;
 use crate::calls::Reply;
-use crate::layout::{BASKETS, LINE, MATCH};
+use crate::paper::{BASKETS, LINE, MATCH};
 
 /// The two lists of a run, an entry after the other.
 #[derive(Default)]
-pub struct Done {
+pub struct Lists {
     matches: Vec<[u64; MATCH]>,
     lines: Vec<[u64; LINE]>,
 }
 
-impl Done {
+impl Lists {
     pub fn write(&self, matches: &mut [u64], lines: &mut [u64]) -> Reply {
         let (matched, lined) = (self.matches.concat(), self.lines.concat());
         matches[..matched.len()].copy_from_slice(&matched);
@@ -46,11 +46,11 @@ fn post(day: &mut Day, basket: usize, matched: &Matched, covered: i128, lots: &[
     }
 }
 
-pub fn run(day: &mut Day, draw: &[usize]) -> Done {
+pub fn run(day: &mut Day, draw: &[usize]) -> Lists {
     let none = vec![0; day.issues.len()];
     let mut stocks: Vec<Stock> =
         (0..day.participants).map(|p| Stock { allocable: allocable(day, p), used: none.clone(), used_before: none.clone() }).collect();
-    let mut done = Done::default();
+    let mut lists = Lists::default();
     for basket in 0..BASKETS {
         for stock in &mut stocks {
             stock.used_before = stock.used.clone();
@@ -65,11 +65,11 @@ pub fn run(day: &mut Day, draw: &[usize]) -> Done {
             if let Some((issue, forced)) = filled.forced {
                 lots[issue] += forced;
             }
-            done.list(basket, &matched, &filled, &lots);
+            lists.list(basket, &matched, &filled, &lots);
             post(day, basket, &matched, filled.covered, &lots);
         }
     }
     day.notices.iter_mut().for_each(|row| row.fill(0));
     day.runs += 1;
-    done
+    lists
 }

@@ -1,10 +1,17 @@
 //! The value of lots, and searches on it.
 
 use super::{Day, Issue};
+use crate::paper::{COUPON, DAYS, INTEREST_DIVISOR, PRICE, PRICE_FACTOR};
 
 /// "5 × n × price, plus n × coupon × days ÷ 730 rounded down once"
-pub fn value(issue: &Issue, lots: i128) -> i128 {
-    5 * lots * issue.price + lots * issue.coupon * issue.days / 730
+fn value(issue: &Issue, lots: i128) -> i128 {
+    let [price, coupon, days] = [PRICE, COUPON, DAYS].map(|term| issue.terms[term]);
+    i128::from(PRICE_FACTOR) * lots * price + lots * coupon * days / i128::from(INTEREST_DIVISOR)
+}
+
+/// The value of lots at these terms, for those who make up days.
+pub fn value_at(terms: &[u64], lots: u64) -> u64 {
+    value(&super::book::issue(&[], terms), lots.into()) as u64
 }
 
 /// "Each issue within a match is valued on its total lots in that match."
