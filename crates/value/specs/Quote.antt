@@ -11,6 +11,7 @@ rate t = 3650 * t.price + t.coupon * t.days
 unfoldable pub is_quote : Terms → Quote → Bool
 is_quote t q = leb 1_000 t.price && eqb q.rate (rate t)
 
--- it is. Callers hand this on: it is a record, so that its terms and quote are found by themselves, and a test, so that it is a fact with one proof
+-- It is. Callers hand this on. It is a record, so that its terms and quote are found by themselves, and has a test inside, so that a ghost
+-- field may say it: a fact with one proof
 pub record QuoteOf (t : Terms) (q : Quote) : Type 0 where
   pub holds : is_quote t q ≡ true
