@@ -92,7 +92,7 @@ Received b receipts c p = Filled receipts 0 (get_or b 1 0) (tally_rows b) c p
 
 module _ (b receipts : List ℕ) (f : ReceiptsFit b receipts) where
   tally-shape : Shape (grid b tally_at most_issues (get_or b 0 0) (get_or b 1 0)) (get_or b 0 0) (get_or b 1 0)
-  tally-shape = grid-shape b tally_at 32 (get_or b 0 0) (get_or b 1 0) f.most (omega (arith, f.size, f.few))
+  tally-shape = grid-shape b tally_at most_issues (get_or b 0 0) (get_or b 1 0) f.most (omega (arith, f.size, f.few))
 
   tally-plus : Shape (tally_rows b) (get_or b 0 0) (get_or b 1 0)
   tally-plus = map-shape plus (grid b tally_at most_issues (get_or b 0 0) (get_or b 1 0)) (get_or b 0 0) (get_or b 1 0) tally-shape
@@ -147,7 +147,7 @@ module _ (b pairs : List ℕ) (f : PairsFit b pairs) where
   pairs-room = omega (arith, f.room, mul_comm (get_or b 0 0 * get_or b 0 0) 7)
 
   square-shape : (k : ℕ) → k < 7 → Shape (grid b (mark_square today_at k) most_participants (get_or b 0 0) (get_or b 0 0)) (get_or b 0 0) (get_or b 0 0)
-  square-shape k l = grid-shape b (today_at + 144 * k) 12 (get_or b 0 0) (get_or b 0 0) f.few (omega (arith, f.size, f.few))
+  square-shape k l = grid-shape b (mark_square today_at k) most_participants (get_or b 0 0) (get_or b 0 0) f.few (omega (arith, f.size, f.few))
 
   today-row : (k : ℕ) → k < 7 → joined (grid b (mark_square today_at k) most_participants (get_or b 0 0) (get_or b 0 0)) ≡ row (today_rows b) k
   today-row k l =

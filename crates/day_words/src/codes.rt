@@ -2,6 +2,8 @@
 ghost use Rattle.std.specs.Prelude.{◌≡◌, ◌↔◌, ◌%◌, ◌<◌, length, map, IfOk, IsTrue, OnErr};
 ghost use Rattle.words.specs.Lines.{IsNumber, Takes, words_left};
 ghost use Rattle.day_words.specs.Named.{IsCode, IsFirstPlace, Names, codes_in};
+ghost use Rattle.rule.specs.Day.{code_size};
+ghost use Rattle.rule.specs.Layout.{most_issues};
 
 use layout::{CODE, MOST_ISSUES};
 use words::{Line, Unread, read_number};
@@ -26,7 +28,7 @@ fn is_code(word: &[u8]) -> bool
 
 // The codes that stand in a book, a byte to a cell; zeros after those of the day.
 pub fn codes_of(cells: &[u64]) -> [u8; CODES]
-    requires { length cells.now ≡ 384 }
+    requires { length cells.now ≡ code_size * most_issues }
     ensures { result ≡ map (λ cell. cell % 256) cells.now }
 {
     let mut bytes = [0; CODES];

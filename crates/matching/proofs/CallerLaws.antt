@@ -13,7 +13,7 @@ use Rattle.lists.proofs.PartLaws.{table-agree}
 use Rattle.lists.proofs.FoldLaws.{every_map}
 use Rattle.lists.proofs.TableLaws.{get_d_map}
 use Rattle.rule.specs.Matching.{Match, OneZero}
-use Rattle.rule.specs.Layout.{plus, minus}
+use Rattle.rule.specs.Layout.{plus, minus, most_participants}
 use Rattle.rule.proofs.DrawLaws.{EachOnce}
 use Rattle.arrayvec.specs.ArrayVec.{ArrayVec}
 use Rattle.matching.specs.declared.Match.{Match as Entry}
@@ -36,7 +36,7 @@ signed-one-zero (c ∷ cs) zero = one_of c
 signed-one-zero (c ∷ cs) (suc p) = signed-one-zero cs p
 
 -- n participants, their positions in the basket, and a right draw
-pub sound-basket : (n : ℕ) (marks draw positions : List ℕ) → length positions ≡ n → n ≤ 12 → 12 * n ≤ length marks → EachOnce draw n
+pub sound-basket : (n : ℕ) (marks draw positions : List ℕ) → length positions ≡ n → n ≤ 12 → most_participants * n ≤ length marks → EachOnce draw n
     → Basket marks draw (map plus positions) (map minus positions)
 sound-basket n marks draw positions e h k r =
     let o : length (map plus positions) ≡ n = length-map positions plus ∙ e in
@@ -50,9 +50,9 @@ sound-basket n marks draw positions e h k r =
 -- the marks of a basket, lent as the 144 cells at its place in the book
 pub marks-of-book : (book : List ℕ) (at n : ℕ) → n ≤ 12 → at + 144 ≤ length book → pair_marks (block book at 144) n ≡ grid book at 12 n n
 marks-of-book book at n h k =
-    table-agree n (λ p. block (block book at 144) (0 + 12 * p) n) (λ p. block book (at + 12 * p) n) (λ p l.
-    let e : at + (0 + 12 * p) ≡ at + 12 * p = omega arith in
-    block-block book at 144 (0 + 12 * p) n (omega arith) k ∙ ap (λ (o : ℕ). block book o n) e)
+    table-agree n (λ p. block (block book at 144) (0 + most_participants * p) n) (λ p. block book (at + most_participants * p) n) (λ p l.
+    let e : at + (0 + most_participants * p) ≡ at + most_participants * p = omega arith in
+    block-block book at 144 (0 + most_participants * p) n (omega arith) k ∙ ap (λ (o : ℕ). block book o n) e)
 
 -- ---- the matches
 

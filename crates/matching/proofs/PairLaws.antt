@@ -13,6 +13,7 @@ use Rattle.lists.proofs.TestLaws.{pick_yes, pick_no}
 use Rattle.lists.proofs.FoldLaws.{every-keep}
 use Rattle.lists.proofs.AppendLaws.{keep_append}
 use Rattle.lists.proofs.PartLaws.{grid-get}
+use Rattle.rule.specs.Layout.{most_participants}
 use Rattle.rule.specs.Matching.{meet, with, pairs_of, preferred, preferential}
 use Rattle.rule.specs.Matching as rule
 use Rattle.matching.specs.declared.Left.{Left}
@@ -42,10 +43,10 @@ sizes-stay z b = record {
 abbrev to_meet : List ℕ → ℕ → ℕ → ℕ → List (ℕ × ℕ)
 to_meet marks n d r = keep (is_pair marks n) (with (from r (n - r)) d)
 
-is-mark : (marks : List ℕ) (n d r : ℕ) → d < n → r < n → is_pair marks n (d, r) ≡ eqb (get_or marks (12 * d + r) 0) 1
+is-mark : (marks : List ℕ) (n d r : ℕ) → d < n → r < n → is_pair marks n (d, r) ≡ eqb (get_or marks (most_participants * d + r) 0) 1
 is-mark marks n d r h k =
-    let e : 0 + 12 * d + r ≡ 12 * d + r = omega arith in
-    ap (λ (v : ℕ). eqb v 1) (rw e at (grid-get marks 0 12 n n d r h k))
+    let e : 0 + most_participants * d + r ≡ most_participants * d + r = omega arith in
+    ap (λ (v : ℕ). eqb v 1) (rw e at (grid-get marks 0 most_participants n n d r h k))
 
 -- those left to meet lead to the whole
 pub record Row (marks : List ℕ) (d : ℕ) (s₀ s : Left) (r : ℕ) : Type 0 where
@@ -67,29 +68,29 @@ module _ {marks : List ℕ} {d : ℕ} {s₀ s : Left} {r : ℕ} (p : Pairing mar
 
   module _ (h : r < n) where
     -- the next is of a pair
-    next-pair : get_or marks (12 * d + r) 0 ≡ 1 → to_meet marks n d r ≡ ((d, r) ∷ []) ++ to_meet marks n d (r + 1)
+    next-pair : get_or marks (most_participants * d + r) 0 ≡ 1 → to_meet marks n d r ≡ ((d, r) ∷ []) ++ to_meet marks n d (r + 1)
     next-pair m = rw (from_first r n h) (pick_yes _ _ _ (is-mark marks n d r p.deliverer h ∙ eq-eqb _ 1 m))
 
-    next-none : (get_or marks (12 * d + r) 0 ≡ 1 → ⊥) → to_meet marks n d r ≡ to_meet marks n d (r + 1)
+    next-none : (get_or marks (most_participants * d + r) 0 ≡ 1 → ⊥) → to_meet marks n d r ≡ to_meet marks n d (r + 1)
     next-none m = rw (from_first r n h) (pick_no _ _ _ (is-mark marks n d r p.deliverer h ∙ ne_eqb _ 1 m))
 
-    leads-pair : get_or marks (12 * d + r) 0 ≡ 1 → foldl (meet true) (left_of s) (((d, r) ∷ []) ++ to_meet marks n d (r + 1)) ≡ whole
+    leads-pair : get_or marks (most_participants * d + r) 0 ≡ 1 → foldl (meet true) (left_of s) (((d, r) ∷ []) ++ to_meet marks n d (r + 1)) ≡ whole
     leads-pair m = ap (foldl (meet true) (left_of s)) (sym (next-pair m)) ∙ w.leads
 
-    pub row-asks : get_or marks (12 * d + r) 0 ≡ 1 → Meeting true s d r
+    pub row-asks : get_or marks (most_participants * d + r) 0 ≡ 1 → Meeting true s d r
     row-asks m = record {
       deliverer = omega (arith, p.deliverer, w.same.owed_size);
       receiver = omega (arith, p.sizes.same, w.same.due_size);
       room = meets-room true (left_of s) whole ((d, r) ∷ []) (to_meet marks n d (r + 1)) (leads-pair m) p.room;
     }
 
-    pub row-met : {t : Left} → get_or marks (12 * d + r) 0 ≡ 1 → left_of t ≡ meet true (left_of s) (d, r) → SameBuffers s t → Row marks d s₀ t (r + 1)
+    pub row-met : {t : Left} → get_or marks (most_participants * d + r) 0 ≡ 1 → left_of t ≡ meet true (left_of s) (d, r) → SameBuffers s t → Row marks d s₀ t (r + 1)
     row-met m e b = record {
       same = same_still w.same b;
       leads = ap (λ (u : rule.Left). foldl (meet true) u (to_meet marks n d (r + 1))) e ∙ meets-on true (left_of s) whole ((d, r) ∷ []) (to_meet marks n d (r + 1)) (leads-pair m);
     }
 
-    pub row_past : (get_or marks (12 * d + r) 0 ≡ 1 → ⊥) → Row marks d s₀ s (r + 1)
+    pub row_past : (get_or marks (most_participants * d + r) 0 ≡ 1 → ⊥) → Row marks d s₀ s (r + 1)
     row_past m = record { same = w.same; leads = ap (foldl (meet true) (left_of s)) (sym (next-none m)) ∙ w.leads }
 
   -- the deliverer has nothing left, whoever is left to meet

@@ -4,6 +4,7 @@ use Rattle.arrayvec.specs.ArrayVec.{ArrayVec}
 use Rattle.lists.specs.Tables.{cell, up_to}
 use Rattle.lists.specs.Parts.{grid}
 use Rattle.lists.specs.Folds.{foldl, keep, Every}
+use Rattle.rule.specs.Layout.{most_participants}
 use Rattle.rule.specs.Matching.{Match, OneZero, meet, with, turn, deliverers, preferential}
 use Rattle.rule.specs.Matching as rule
 use Rattle.matching.specs.declared.Match.{Match as Entry}
@@ -49,13 +50,13 @@ pub record Turning (draw : List ℕ) (s : Left) (d : ℕ) : Type 0 where
 
 -- all deliverers' turns
 pub record Drawing (draw : List ℕ) (s : Left) : Type 0 where
-  pub few : length s.owed.now ≤ 12
+  pub few : length s.owed.now ≤ most_participants
   pub receivers : Every (λ p. p < length s.due.now) draw
   pub room : Room (foldl (turn draw) (left_of s) (deliverers s.owed.now))
 
 -- yesterday's pairs of the basket, as they stand in the book: a row of 12 marks for each deliverer
 abbrev pub pair_marks : List ℕ → ℕ → List (List ℕ)
-pair_marks marks n = grid marks 0 12 n n
+pair_marks marks n = grid marks 0 most_participants n n
 
 abbrev pub is_pair : List ℕ → ℕ → ℕ × ℕ → Bool
 is_pair marks n c = eqb (cell (pair_marks marks n) c.0 c.1) 1
@@ -67,8 +68,8 @@ meet_pairs marks s cs = foldl (meet true) s (keep (is_pair marks (length s.owed)
 -- of at most 12 participants, as many amounts owed as due, and a mark for each deliverer and receiver
 pub record Sizes (marks owed due : List ℕ) : Type 0 where
   pub same : length due ≡ length owed
-  pub few : length owed ≤ 12
-  pub marked : 12 * length owed ≤ length marks
+  pub few : length owed ≤ most_participants
+  pub marked : most_participants * length owed ≤ length marks
 
 -- deliverer d and the receivers of its pairs
 pub record Pairing (marks : List ℕ) (s : Left) (d : ℕ) : Type 0 where

@@ -71,7 +71,7 @@ impl Left<'_> {
         ensures left { left_of self.new ≡ meet_pairs marks.now (left_of self.old) (with (up_to (length self.old.owed.now)) d) }
         ensures same { SameBuffers self.old self.new }
     {
-        let from = 12 * d;
+        let from = layout::MOST_PARTICIPANTS * d;
         let end = from + self.due.len();
         for (r, mark) in marks[from..end].iter().enumerate() {
             if self.owed[d] == 0 {
@@ -130,7 +130,7 @@ impl Left<'_> {
         ensures left { left_of self.new ≡ foldl (turn_of draw.now) (left_of self.old) (deliverers self.old.owed.now) }
         ensures same { SameBuffers self.old self.new }
     {
-        let mut order = [0u64; 12];
+        let mut order = [0u64; layout::MOST_PARTICIPANTS];
         let owed = &mut *self.owed;
         ranking::rank(owed, &mut order);
         for d in &order[..self.owed.len()] {

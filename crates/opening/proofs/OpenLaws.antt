@@ -267,12 +267,12 @@ module _ (n m : ℕ) (codes terms receipts pairs b : List ℕ) where
     unfolding open_of open_checks
     wrong-codes e = search (answers, rules) depth 12
 
-    module _ (c : length codes ≡ 12 * m) where
+    module _ (c : length codes ≡ code_size * m) where
       pub wrong-terms : length terms ≢ 6 * m → ◌≡◌ {A = Reply × List ℕ} (refused 1, b) (open_of n m codes terms receipts pairs b)
       unfolding open_of open_checks
       wrong-terms e = search (answers, rules) depth 12
 
-      module _ (t : length terms ≡ 6 * m) where
+      module _ (t : length terms ≡ term_size * m) where
         pub wrong-receipts : length receipts ≢ n * m → ◌≡◌ {A = Reply × List ℕ} (refused 1, b) (open_of n m codes terms receipts pairs b)
         unfolding open_of open_checks
         wrong-receipts e = search (answers, rules) depth 12

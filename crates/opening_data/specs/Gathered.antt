@@ -1,8 +1,9 @@
 -- What a line that is read gathers. Assumes nothing.
 use Rattle.std.specs.Prelude.{◌≡◌, ◌+◌, ◌*◌, ◌<◌, ℕ, List, [], ◌∷◌, ◌-◌, length, map, min, replicate, slice_index, slice_range, slice_set}
 use Rattle.std.specs.Str.Parse.{digits_value}
+use Rattle.rule.specs.Day.{baskets, code_size, term_size}
 use Rattle.rule.specs.Calls.{Reply}
-use Rattle.rule.specs.Layout.{open_of}
+use Rattle.rule.specs.Layout.{open_of, most_issues, lots_size, square}
 use Rattle.words.specs.Lines.{IsNumber}
 use Rattle.day_words.specs.Named.{IsLetter, Names, codes_in}
 use Rattle.opening_data.specs.declared.OpeningData.{OpeningData}
@@ -13,15 +14,15 @@ empty n m = record {
   participants = n;
   issues = m;
   listed = 0;
-  codes = replicate 384 0;
-  terms = replicate 192 0;
-  receipts = replicate 384 0;
-  pairs = replicate 1008 0;
+  codes = replicate (code_size * most_issues) 0;
+  terms = replicate (term_size * most_issues) 0;
+  receipts = replicate lots_size 0;
+  pairs = replicate (square * baskets) 0;
 }
 
 -- the codes of the issues that are listed
 abbrev pub listed_codes : OpeningData → List (List ℕ)
-listed_codes gathered = codes_in (slice_range gathered.codes 0 (12 * min gathered.listed 32))
+listed_codes gathered = codes_in (slice_range gathered.codes 0 (code_size * min gathered.listed most_issues))
 
 -- the opening call on what is gathered. Sizes for which there is no room are refused, whatever is lent with them
 abbrev pub opened : OpeningData → List ℕ → Reply × List ℕ
@@ -29,7 +30,7 @@ opened gathered book =
     let n = min gathered.participants 12 in
     let m = min gathered.issues 32 in
     let listed = min gathered.listed 32 in
-    open_of gathered.participants gathered.issues (slice_range gathered.codes 0 (12 * listed)) (slice_range gathered.terms 0 (6 * listed)) (slice_range gathered.receipts 0 (n * m)) (slice_range gathered.pairs 0 (7 * n * n)) book
+    open_of gathered.participants gathered.issues (slice_range gathered.codes 0 (code_size * listed)) (slice_range gathered.terms 0 (term_size * listed)) (slice_range gathered.receipts 0 (n * m)) (slice_range gathered.pairs 0 (baskets * n * n)) book
 
 -- "day PARTICIPANTS ISSUES"
 pub record DayLine (words : List (List ℕ)) (old new : OpeningData) : Type 0 where
@@ -47,10 +48,10 @@ pub record IssueLine (words : List (List ℕ)) (old new : OpeningData) : Type 0 
   pub lengths : (length code ≡ 12) × (length terms ≡ 6)
   pub room : old.listed < 32
   pub gathered : new ≡ record old { listed = old.listed + 1; codes = new.codes; terms = new.terms }
-  pub earlier_codes : slice_range new.codes 0 (12 * old.listed) ≡ slice_range old.codes 0 (12 * old.listed)
-  pub earlier_terms : slice_range new.terms 0 (6 * old.listed) ≡ slice_range old.terms 0 (6 * old.listed)
-  pub code_kept : slice_range new.codes (12 * old.listed) (12 * old.listed + 12) ≡ code
-  pub terms_kept : slice_range new.terms (6 * old.listed) (6 * old.listed + 6) ≡ map (digits_value 10) terms
+  pub earlier_codes : slice_range new.codes 0 (code_size * old.listed) ≡ slice_range old.codes 0 (code_size * old.listed)
+  pub earlier_terms : slice_range new.terms 0 (term_size * old.listed) ≡ slice_range old.terms 0 (term_size * old.listed)
+  pub code_kept : slice_range new.codes (code_size * old.listed) (code_size * old.listed + code_size) ≡ code
+  pub terms_kept : slice_range new.terms (term_size * old.listed) (term_size * old.listed + term_size) ≡ map (digits_value 10) terms
 
 -- "receipt PARTICIPANT ISSUE LOTS": the lots stand by participant, then issue
 pub record ReceiptLine (words : List (List ℕ)) (old new : OpeningData) : Type 0 where

@@ -5,6 +5,8 @@ ghost use Rattle.std.specs.Prelude.{◌≡◌, ◌+◌, ◌*◌, ◌<◌, ◌≤
 ghost use Rattle.reply.specs.Answers.{told};
 ghost use Rattle.words.specs.Lines.{words_left};
 ghost use Rattle.opening_data.specs.Gathered.{empty, opened, DayLine, IssueLine, ReceiptLine, PairLine};
+ghost use Rattle.rule.specs.Day.{baskets, code_size};
+ghost use Rattle.rule.specs.Layout.{most_participants, most_issues, lots_size, square};
 
 use day_words::{CODES, Codes, next_basket_of_day};
 use layout::{BASKETS, CODE, MOST_ISSUES, MOST_PARTICIPANTS, SQUARE, TERM};
@@ -32,9 +34,9 @@ pub struct OpeningData {
 
 // Where the lots of a participant in an issue stand.
 fn receipt_place(participant: usize, issues: usize, issue: usize) -> usize
-    requires { (participant < 12) × (issues ≤ 32) × (issue < issues) }
+    requires { (participant < most_participants) × (issues ≤ most_issues) × (issue < issues) }
     ensures place { result ≡ participant * issues + issue }
-    ensures within { result < 384 }
+    ensures within { result < lots_size }
 {
     participant * issues + issue
 }
@@ -43,7 +45,7 @@ fn receipt_place(participant: usize, issues: usize, issue: usize) -> usize
 fn pair_place(participants: usize, basket: usize, deliverer: usize, receiver: usize) -> usize
     requires { (participants ≤ 12) × (basket < 7) × (deliverer < participants) × (receiver < participants) }
     ensures place { result ≡ (basket * participants + deliverer) * participants + receiver }
-    ensures within { result < 1008 }
+    ensures within { result < square * baskets }
 {
     let row = basket * participants + deliverer;
     row * participants + receiver
@@ -108,7 +110,7 @@ impl OpeningData {
 
     // The codes of the issues that are listed.
     fn listed_codes(&self) -> Codes<'_>
-        ensures { result.bytes.now ≡ slice_range self.now.codes 0 (12 * min self.now.listed 32) }
+        ensures { result.bytes.now ≡ slice_range self.now.codes 0 (code_size * min self.now.listed most_issues) }
     {
         let listed = self.listed.min(MOST_ISSUES);
         Codes {

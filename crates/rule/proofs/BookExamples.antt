@@ -1,12 +1,12 @@
 -- Examples of the calls on a book. By computation. Assumes nothing.
 use mathlib.Core.Path.{◌≡◌, refl}
-use Prim.Native.Nat.{ℕ, ◌+◌, ◌*◌, ◌-◌}
+use Prim.Native.Nat.{ℕ, ◌+◌, ◌-◌}
 use mathlib.Core.List.{List, [], ◌∷◌, ◌++◌}
 use lib.ListN.{take, drop}
 use Rattle.lists.specs.Tables.{zeros, table}
 use Rattle.lists.specs.Parts.{written}
 use Rattle.rule.specs.Calls.{Reply, accepted, counts, refused}
-use Rattle.rule.specs.Layout.{codes_at, terms_at, receipts_at, positions_at, notices_at, today_at, tally_at, book_length, open_of, trade_of, notice_of, run_of, close_of}
+use Rattle.rule.specs.Layout.{codes_at, terms_at, receipts_at, notices_at, today_at, tally_at, book_length, open_of, trade_of, notice_of, run_of, close_of, mark_square, position_row}
 use Rattle.rule.proofs.ExampleDays.{on_book, codes, issue}
 use Rattle.rule.proofs.WholeRule.{book_rule}
 
@@ -23,12 +23,12 @@ nines n = table n (λ i. 9)
 
 -- after three runs participant 0 has delivered 2 lots to participant 1 in basket C. What stands in the place of a third participant is not read
 unfoldable closed : Reply × (List ℕ × List ℕ)
-closed = on_book (book 3 ((tally_at, 2 ∷ []) ∷ (tally_at + 32, below 2 ∷ []) ∷ (today_at + 144 * 2 + 1, 1 ∷ []) ∷ (tally_at + 64, 9 ∷ []) ∷ [])) (λ b. close_of b (nines 3) (nines 30))
+closed = on_book (book 3 ((tally_at, 2 ∷ []) ∷ (tally_at + 32, below 2 ∷ []) ∷ (mark_square today_at 2 + 1, 1 ∷ []) ∷ (tally_at + 64, 9 ∷ []) ∷ [])) (λ b. close_of b (nines 3) (nines 30))
 
 -- participant 0 has a lot scheduled and notified, and owes its value to participant 1 in basket C
 unfoldable ran : Reply × (List ℕ × List ℕ)
 ran =
-    on_book (book 0 ((receipts_at, 1 ∷ []) ∷ (notices_at, 1 ∷ []) ∷ (positions_at + 12 * 2, 50000 ∷ below 50000 ∷ []) ∷ [])) (λ b.
+    on_book (book 0 ((receipts_at, 1 ∷ []) ∷ (notices_at, 1 ∷ []) ∷ (position_row 2, 50000 ∷ below 50000 ∷ []) ∷ [])) (λ b.
     let r : Reply × (List ℕ × List ℕ × List ℕ) = run_of b (0 ∷ 1 ∷ []) (nines 540) (nines 7392) in
     (r.0, (take 8 r.1.1, take 4 r.1.2)))
 

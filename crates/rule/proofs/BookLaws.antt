@@ -1,6 +1,6 @@
 -- What a sound book shows to a call that has asked. Assumes nothing.
 use mathlib.Core.Path.{◌≡◌, sym, ap, ◌∙◌}
-use Prim.Native.Nat.{ℕ, ◌+◌, ◌*◌, ◌<◌}
+use Prim.Native.Nat.{ℕ, ◌<◌}
 use native.Mathlib.Omega.{arith}
 use mathlib.Core.Bool.{true}
 use mathlib.Core.List.{List}
@@ -14,7 +14,7 @@ use Rattle.lists.proofs.TestLaws.{and_left, and_right}
 use Rattle.lists.proofs.TableLaws.{length-table, get_or-table}
 use Rattle.lists.proofs.PartLaws.{grid-get, grid-shape}
 use Rattle.rule.specs.Sound.{sound}
-use Rattle.rule.specs.Layout.{positions_at, book_length, plus, minus, view, book_fits, sound_book}
+use Rattle.rule.specs.Layout.{positions_at, book_length, plus, minus, view, book_fits, sound_book, most_participants, position_cell}
 use Rattle.rule.proofs.SoundLaws.{Sizes, sizes-of, SoundDay, sound-facts}
 use Rattle.rule.proofs.LayoutLaws.{Readable, map-cell, view-shaped}
 
@@ -45,17 +45,17 @@ table_of l n f e h =
 
 module _ (b : List ℕ) (r : Readable b) where
   -- a position in the book
-  pub view-owed : (k p : ℕ) → k < 7 → p < get_or b 0 0 → cell (view b).state.owed k p ≡ plus (get_or b (positions_at + 12 * k + p) 0)
+  pub view-owed : (k p : ℕ) → k < 7 → p < get_or b 0 0 → cell (view b).state.owed k p ≡ plus (get_or b (position_cell k p) 0)
   unfolding view
   view-owed k p l h =
-      map-cell plus (grid b positions_at 12 7 (get_or b 0 0)) 7 (get_or b 0 0) k p (grid-shape b positions_at 12 7 (get_or b 0 0) r.few (omega (arith, r.size))) l h
-      ∙ ap plus (grid-get b positions_at 12 7 (get_or b 0 0) k p l h)
+      map-cell plus (grid b positions_at most_participants 7 (get_or b 0 0)) 7 (get_or b 0 0) k p (grid-shape b positions_at most_participants 7 (get_or b 0 0) r.few (omega (arith, r.size))) l h
+      ∙ ap plus (grid-get b positions_at most_participants 7 (get_or b 0 0) k p l h)
 
-  pub view-due : (k p : ℕ) → k < 7 → p < get_or b 0 0 → cell (view b).state.due k p ≡ minus (get_or b (positions_at + 12 * k + p) 0)
+  pub view-due : (k p : ℕ) → k < 7 → p < get_or b 0 0 → cell (view b).state.due k p ≡ minus (get_or b (position_cell k p) 0)
   unfolding view
   view-due k p l h =
-      map-cell minus (grid b positions_at 12 7 (get_or b 0 0)) 7 (get_or b 0 0) k p (grid-shape b positions_at 12 7 (get_or b 0 0) r.few (omega (arith, r.size))) l h
-      ∙ ap minus (grid-get b positions_at 12 7 (get_or b 0 0) k p l h)
+      map-cell minus (grid b positions_at most_participants 7 (get_or b 0 0)) 7 (get_or b 0 0) k p (grid-shape b positions_at most_participants 7 (get_or b 0 0) r.few (omega (arith, r.size))) l h
+      ∙ ap minus (grid-get b positions_at most_participants 7 (get_or b 0 0) k p l h)
 
   -- a basket's positions, at their places
   module _ (k : ℕ) (l : k < 7) where
@@ -67,10 +67,10 @@ module _ (b : List ℕ) (r : Readable b) where
     unfolding view
     due_size = (view-shaped b r).due.cells k l
 
-    pub row-owed : row (view b).state.owed k ≡ table (get_or b 0 0) (λ p. plus (get_or b (positions_at + 12 * k + p) 0))
+    pub row-owed : row (view b).state.owed k ≡ table (get_or b 0 0) (λ p. plus (get_or b (position_cell k p) 0))
     row-owed =
-        table_of (row (view b).state.owed k) (get_or b 0 0) (λ p. plus (get_or b (positions_at + 12 * k + p) 0)) row-size (λ p h. view-owed k p l h)
+        table_of (row (view b).state.owed k) (get_or b 0 0) (λ p. plus (get_or b (position_cell k p) 0)) row-size (λ p h. view-owed k p l h)
 
-    pub row-due : row (view b).state.due k ≡ table (get_or b 0 0) (λ p. minus (get_or b (positions_at + 12 * k + p) 0))
+    pub row-due : row (view b).state.due k ≡ table (get_or b 0 0) (λ p. minus (get_or b (position_cell k p) 0))
     row-due =
-        table_of (row (view b).state.due k) (get_or b 0 0) (λ p. minus (get_or b (positions_at + 12 * k + p) 0)) due_size (λ p h. view-due k p l h)
+        table_of (row (view b).state.due k) (get_or b 0 0) (λ p. minus (get_or b (position_cell k p) 0)) due_size (λ p h. view-due k p l h)

@@ -1,7 +1,7 @@
 -- What holds after every list of calls on a day that was opened. Assumes nothing.
 use mathlib.Core.Path.{◌≡◌, sym, ap, ap₂, ◌∙◌, subst}
 use mathlib.Core.Logic.{◌≢◌, ◌⊎◌, inl, inr}
-use Prim.Native.Nat.{ℕ, ◌+◌, ◌*◌, ◌≤◌, ◌<◌}
+use Prim.Native.Nat.{ℕ, ◌+◌, ◌≤◌, ◌<◌}
 use native.Mathlib.Decide.{dec_lt}
 use native.Mathlib.Omega.{arith}
 use mathlib.Core.Bool.{true}
@@ -15,7 +15,7 @@ use Rattle.rule.specs.Allocable.{allocable, no_marks}
 use Rattle.rule.specs.Day.{Given, Day, given_of, opened, traded, noticed}
 use Rattle.rule.specs.Run.{allocable_of, allocations, line_list}
 use Rattle.rule.specs.Calls.{Reply, accepted, counts, refused, run_reply}
-use Rattle.rule.specs.Layout.{positions_at, plus, minus, signed, view, sound_book, open_of, trade_of, notice_of, run_of, close_of}
+use Rattle.rule.specs.Layout.{plus, minus, signed, view, sound_book, open_of, trade_of, notice_of, run_of, close_of, position_cell}
 use Rattle.rule.specs.Claims.{Words, Call, trade, notice, run, close, Event, History, next, history, matches_of, lines_of, sold_in, bought_in, delivered_in, received_in, lots_by, forced_by, is_run, runs_in, notified_after, notified, allocable_then, standing, EventHolds, HistoryHolds, StaysSound}
 use Rattle.rule.proofs.SplitLaws.{Within, last-split}
 use Rattle.rule.proofs.LayoutLaws.{signed-split}
@@ -216,7 +216,7 @@ module _ (g : Given) (h : History) (r : Kept g h) where
       let z : _ = book-sound.day.done (omega (arith, r.runs, book-sound.day.runs)) in
       let a : plus (standing h.book k p) ≡ 0 = omega (arith, z.0 k p l (omega (arith, size_is)), standing-owed k p l q) in
       let c : minus (standing h.book k p) ≡ 0 = omega (arith, z.1 k p l (omega (arith, size_is)), standing-due k p l q) in
-      sym (signed-split (standing h.book k p) (r.words (positions_at + 12 * k + p))) ∙ ap₂ signed a c
+      sym (signed-split (standing h.book k p) (r.words (position_cell k p))) ∙ ap₂ signed a c
 
   even-places : (k : ℕ) → k < 7
       → sum (table g.participants (λ p. plus (standing h.book k p))) ≡ sum (table g.participants (λ p. minus (standing h.book k p)))

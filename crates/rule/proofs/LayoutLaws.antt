@@ -20,8 +20,8 @@ use Rattle.lists.proofs.TableLaws.{length-table, get_or-table, get_d_map}
 use Rattle.lists.proofs.PartLaws.{Inside, Outside, Reads, Rising, length-written, written_is, written_out, written-reads, Chain, rising-chain, rising-joined, Shape, Stands, stands-reads, reads-stands, rows_inside, rows-rise, rows-at, stands-agree, stands-grid, grid-shape, grid-stands}
 use Rattle.rule.specs.Value.{Terms, no_terms}
 use Rattle.rule.specs.Allocable.{Marks, no_marks}
-use Rattle.rule.specs.Day.{Given, Day, baskets, terms_of, marks_of}
-use Rattle.rule.specs.Layout.{codes_at, terms_at, receipts_at, pairs_at, positions_at, notices_at, today_at, tally_at, book_length, plus, minus, signed, signed_rows, cube, view, terms_row, terms_rows, cube_rows, given_tables, tables_of, stored}
+use Rattle.rule.specs.Day.{Given, Day, baskets, terms_of, marks_of, code_size, term_size}
+use Rattle.rule.specs.Layout.{codes_at, terms_at, receipts_at, pairs_at, positions_at, notices_at, today_at, tally_at, book_length, plus, minus, signed, signed_rows, cube, view, terms_row, terms_rows, cube_rows, given_tables, tables_of, stored, lots_cell, lots_row, mark_square, most_issues, most_participants, position_cell, position_row}
 
 -- ---- a signed number and its cell
 
@@ -107,10 +107,10 @@ pub record Shaped (y : Day) : Type 0 where
 
 -- the book has the tables that opening brought
 pub record HoldsGiven (b : List ℕ) (g : Given) : Type 0 where
-  pub codes : Stands b codes_at 12 g.issues 12 g.codes
-  pub terms : Stands b terms_at 6 g.issues 6 (terms_rows g)
-  pub receipts : Stands b receipts_at 32 g.participants g.issues g.receipts
-  pub pairs : (k : ℕ) → k < 7 → Stands b (pairs_at + 144 * k) 12 g.participants g.participants (row g.pairs k)
+  pub codes : Stands b codes_at code_size g.issues code_size g.codes
+  pub terms : Stands b terms_at term_size g.issues term_size (terms_rows g)
+  pub receipts : Stands b receipts_at most_issues g.participants g.issues g.receipts
+  pub pairs : (k : ℕ) → k < 7 → Stands b (mark_square pairs_at k) most_participants g.participants g.participants (row g.pairs k)
 
 -- the book has the day's cells
 pub record Holds (b : List ℕ) (y : Day) : Type 0 where
@@ -119,10 +119,10 @@ pub record Holds (b : List ℕ) (y : Day) : Type 0 where
   pub runs : get_or b 2 0 ≡ y.state.runs
   pub trades : get_or b 3 0 ≡ y.state.trades
   pub given : HoldsGiven b y.given
-  pub positions : Stands b positions_at 12 7 y.given.participants (signed_rows y.state.owed y.state.due)
-  pub notices : Stands b notices_at 32 y.given.participants y.given.issues y.state.notices
-  pub today : (k : ℕ) → k < 7 → Stands b (today_at + 144 * k) 12 y.given.participants y.given.participants (row y.state.today k)
-  pub tally : Stands b tally_at 32 y.given.participants y.given.issues (signed_rows y.state.delivered y.state.received)
+  pub positions : Stands b positions_at most_participants 7 y.given.participants (signed_rows y.state.owed y.state.due)
+  pub notices : Stands b notices_at most_issues y.given.participants y.given.issues y.state.notices
+  pub today : (k : ℕ) → k < 7 → Stands b (mark_square today_at k) most_participants y.given.participants y.given.participants (row y.state.today k)
+  pub tally : Stands b tally_at most_issues y.given.participants y.given.issues (signed_rows y.state.delivered y.state.received)
 
 signed-shape : (out back : List (List ℕ)) (n m : ℕ) → Shape out n m → Shape (signed_rows out back) n m
 signed-shape out back n m s = record {
@@ -143,7 +143,7 @@ terms-at g i l = get_or-table g.issues (λ i. terms_row (get_or g.terms i no_ter
 pub terms-length : (g : Given) → length (terms_rows g) ≡ g.issues
 terms-length g = length-table g.issues _
 
-terms-shape : (g : Given) → Shape (terms_rows g) g.issues 6
+terms-shape : (g : Given) → Shape (terms_rows g) g.issues term_size
 terms-shape g = record { rows = terms-length g; cells = λ p l. rw (terms-at g p l) refl }
 
 -- f on every cell of a table
@@ -209,7 +209,7 @@ module _ (y : Day) (s : Shaped y) where
   abbrev tally_rows : List (List ℕ)
   tally_rows = signed_rows y.state.delivered y.state.received
 
-  term-shape : Shape term_rows m 6
+  term-shape : Shape term_rows m term_size
   term-shape = terms-shape y.given
 
   position-shape : Shape position_rows 7 n
@@ -218,54 +218,54 @@ module _ (y : Day) (s : Shaped y) where
   tally-shape : Shape tally_rows n m
   tally-shape = signed-shape y.state.delivered y.state.received n m s.delivered
 
-  cube-inside : (e at : ℕ) (t : List (List (List ℕ))) → ((k : ℕ) → k < 7 → Shape (row t k) n n) → at + 144 * 7 ≤ e → Every (Inside e) (cube_rows at t)
-  cube-inside e at t c h = every-joined (Inside e) 7 (λ k. rows_at (at + 144 * k) 12 (row t k)) (λ k l.
-      rows_inside [] (at + 144 * k) 12 n n (row t k) (c k l) e s.few (omega (arith, s.few)))
+  cube-inside : (e at : ℕ) (t : List (List (List ℕ))) → ((k : ℕ) → k < 7 → Shape (row t k) n n) → mark_square at 7 ≤ e → Every (Inside e) (cube_rows at t)
+  cube-inside e at t c h = every-joined (Inside e) 7 (λ k. rows_at (mark_square at k) most_participants (row t k)) (λ k l.
+      rows_inside [] (mark_square at k) most_participants n n (row t k) (c k l) e s.few (omega (arith, s.few)))
 
   cube-rise : (at : ℕ) (t : List (List (List ℕ))) → ((k : ℕ) → k < 7 → Shape (row t k) n n) → Rising at (cube_rows at t)
-  cube-rise at t c = rising-joined 7 (λ k. rows_at (at + 144 * k) 12 (row t k)) at 144 (λ k l. (
-    rows-rise [] (at + 144 * k) 12 n n (row t k) (c k l) s.few,
-    rows_inside [] (at + 144 * k) 12 n n (row t k) (c k l) (at + 144 * suc k) s.few (omega (arith, s.few)),
+  cube-rise at t c = rising-joined 7 (λ k. rows_at (mark_square at k) most_participants (row t k)) at 144 (λ k l. (
+    rows-rise [] (mark_square at k) most_participants n n (row t k) (c k l) s.few,
+    rows_inside [] (mark_square at k) most_participants n n (row t k) (c k l) (mark_square at (suc k)) s.few (omega (arith, s.few)),
   ))
 
   -- every table ends before the next begins
-  codes-in : (e : ℕ) → terms_at ≤ e → Every (Inside e) (rows_at codes_at 12 y.given.codes)
-  codes-in e h = rows_inside [] codes_at 12 m 12 y.given.codes s.codes e (omega arith) (omega (arith, s.most))
+  codes-in : (e : ℕ) → terms_at ≤ e → Every (Inside e) (rows_at codes_at code_size y.given.codes)
+  codes-in e h = rows_inside [] codes_at code_size m code_size y.given.codes s.codes e (omega arith) (omega (arith, s.most))
 
-  terms-in : (e : ℕ) → receipts_at ≤ e → Every (Inside e) (rows_at terms_at 6 term_rows)
-  terms-in e h = rows_inside [] terms_at 6 m 6 term_rows term-shape e (omega arith) (omega (arith, s.most))
+  terms-in : (e : ℕ) → receipts_at ≤ e → Every (Inside e) (rows_at terms_at term_size term_rows)
+  terms-in e h = rows_inside [] terms_at term_size m term_size term_rows term-shape e (omega arith) (omega (arith, s.most))
 
-  receipts-in : (e : ℕ) → pairs_at ≤ e → Every (Inside e) (rows_at receipts_at 32 y.given.receipts)
-  receipts-in e h = rows_inside [] receipts_at 32 n m y.given.receipts s.receipts e s.most (omega (arith, s.few))
+  receipts-in : (e : ℕ) → pairs_at ≤ e → Every (Inside e) (rows_at receipts_at most_issues y.given.receipts)
+  receipts-in e h = rows_inside [] receipts_at most_issues n m y.given.receipts s.receipts e s.most (omega (arith, s.few))
 
   pairs-in : (e : ℕ) → positions_at ≤ e → Every (Inside e) (cube_rows pairs_at y.given.pairs)
   pairs-in e h = cube-inside e pairs_at y.given.pairs s.pairs (omega arith)
 
-  positions-in : (e : ℕ) → notices_at ≤ e → Every (Inside e) (rows_at positions_at 12 position_rows)
-  positions-in e h = rows_inside [] positions_at 12 7 n position_rows position-shape e s.few (omega arith)
+  positions-in : (e : ℕ) → notices_at ≤ e → Every (Inside e) (rows_at positions_at most_participants position_rows)
+  positions-in e h = rows_inside [] positions_at most_participants 7 n position_rows position-shape e s.few (omega arith)
 
-  notices-in : (e : ℕ) → today_at ≤ e → Every (Inside e) (rows_at notices_at 32 y.state.notices)
-  notices-in e h = rows_inside [] notices_at 32 n m y.state.notices s.notices e s.most (omega (arith, s.few))
+  notices-in : (e : ℕ) → today_at ≤ e → Every (Inside e) (rows_at notices_at most_issues y.state.notices)
+  notices-in e h = rows_inside [] notices_at most_issues n m y.state.notices s.notices e s.most (omega (arith, s.few))
 
   today-in : (e : ℕ) → tally_at ≤ e → Every (Inside e) (cube_rows today_at y.state.today)
   today-in e h = cube-inside e today_at y.state.today s.today (omega arith)
 
-  tally-in : (e : ℕ) → book_length ≤ e → Every (Inside e) (rows_at tally_at 32 tally_rows)
-  tally-in e h = rows_inside [] tally_at 32 n m tally_rows tally-shape e s.most (omega (arith, s.few))
+  tally-in : (e : ℕ) → book_length ≤ e → Every (Inside e) (rows_at tally_at most_issues tally_rows)
+  tally-in e h = rows_inside [] tally_at most_issues n m tally_rows tally-shape e s.most (omega (arith, s.few))
 
   -- the tables that opening brings, and what follows them
   chain-on : (ts : List (ℕ × List (ℕ × List ℕ))) → Chain positions_at ts
-      → Chain codes_at ((terms_at, rows_at codes_at 12 y.given.codes) ∷ (receipts_at, rows_at terms_at 6 term_rows) ∷ (pairs_at, rows_at receipts_at 32 y.given.receipts) ∷ (positions_at, cube_rows pairs_at y.given.pairs) ∷ ts)
+      → Chain codes_at ((terms_at, rows_at codes_at code_size y.given.codes) ∷ (receipts_at, rows_at terms_at term_size term_rows) ∷ (pairs_at, rows_at receipts_at most_issues y.given.receipts) ∷ (positions_at, cube_rows pairs_at y.given.pairs) ∷ ts)
   chain-on ts c = (
-    rows-rise [] codes_at 12 m 12 y.given.codes s.codes (omega arith),
+    rows-rise [] codes_at code_size m code_size y.given.codes s.codes (omega arith),
     codes-in _ (le_refl _),
     omega arith,
     (
-      rows-rise [] terms_at 6 m 6 term_rows term-shape (omega arith),
+      rows-rise [] terms_at term_size m term_size term_rows term-shape (omega arith),
       terms-in _ (le_refl _),
       omega arith,
       (
-        rows-rise [] receipts_at 32 n m y.given.receipts s.receipts s.most,
+        rows-rise [] receipts_at most_issues n m y.given.receipts s.receipts s.most,
         receipts-in _ (le_refl _),
         omega arith,
         (cube-rise pairs_at y.given.pairs s.pairs, pairs-in _ (le_refl _), omega arith, c),
@@ -320,18 +320,18 @@ module _ (y : Day) (s : Shaped y) where
         omega arith,
         chain-on
             ((notices_at, get_or (tables_of y) 5 []) ∷ (today_at, get_or (tables_of y) 6 []) ∷ (tally_at, get_or (tables_of y) 7 []) ∷ (book_length, get_or (tables_of y) 8 []) ∷ []) (
-              rows-rise [] positions_at 12 7 n position_rows position-shape s.few,
+              rows-rise [] positions_at most_participants 7 n position_rows position-shape s.few,
               positions-in _ (le_refl _),
               omega arith,
               (
-                rows-rise [] notices_at 32 n m y.state.notices s.notices s.most,
+                rows-rise [] notices_at most_issues n m y.state.notices s.notices s.most,
                 notices-in _ (le_refl _),
                 omega arith,
                 (
                   cube-rise today_at y.state.today s.today,
                   today-in _ (le_refl _),
                   omega arith,
-                  (rows-rise [] tally_at 32 n m tally_rows tally-shape s.most, tally-in _ (le_refl _), omega arith, tt),
+                  (rows-rise [] tally_at most_issues n m tally_rows tally-shape s.most, tally-in _ (le_refl _), omega arith, tt),
                 ),
               ),
             ),
@@ -339,33 +339,33 @@ module _ (y : Day) (s : Shaped y) where
 
   -- ---- rows that are read, and cells
 
-  cube-reads : (b : List ℕ) (at : ℕ) (t : List (List (List ℕ))) → ((k : ℕ) → k < 7 → Shape (row t k) n n) → at + 144 * 7 ≤ length b
-      → ((k : ℕ) → k < 7 → Stands b (at + 144 * k) 12 n n (row t k)) → Every (Reads b) (cube_rows at t)
-  cube-reads b at t c fit h = every-joined (Reads b) 7 (λ k. rows_at (at + 144 * k) 12 (row t k)) (λ k l.
-      stands-reads b (at + 144 * k) 12 n n (row t k) (c k l) s.few (omega (arith, s.few)) (h k l))
+  cube-reads : (b : List ℕ) (at : ℕ) (t : List (List (List ℕ))) → ((k : ℕ) → k < 7 → Shape (row t k) n n) → mark_square at 7 ≤ length b
+      → ((k : ℕ) → k < 7 → Stands b (mark_square at k) most_participants n n (row t k)) → Every (Reads b) (cube_rows at t)
+  cube-reads b at t c fit h = every-joined (Reads b) 7 (λ k. rows_at (mark_square at k) most_participants (row t k)) (λ k l.
+      stands-reads b (mark_square at k) most_participants n n (row t k) (c k l) s.few (omega (arith, s.few)) (h k l))
 
   cube-stands : (b : List ℕ) (at : ℕ) (t : List (List (List ℕ))) → ((k : ℕ) → k < 7 → Shape (row t k) n n) → Every (Reads b) (cube_rows at t)
-      → (k : ℕ) → k < 7 → Stands b (at + 144 * k) 12 n n (row t k)
-  cube-stands b at t c h k l = reads-stands b (at + 144 * k) 12 n n (row t k) (c k l) (joined_at (Reads b) 7 (λ k. rows_at (at + 144 * k) 12 (row t k)) h k l)
+      → (k : ℕ) → k < 7 → Stands b (mark_square at k) most_participants n n (row t k)
+  cube-stands b at t c h k l = reads-stands b (mark_square at k) most_participants n n (row t k) (c k l) (joined_at (Reads b) 7 (λ k. rows_at (mark_square at k) most_participants (row t k)) h k l)
 
   holds-reads : (b : List ℕ) → length b ≡ book_length → Holds b y → Every (Reads b) (joined (tables_of y))
   holds-reads b e h = every-join (Reads b) (tables_of y) (
     (four b (omega arith) ∙ (λ k. h.participants k ∷ h.issues k ∷ h.runs k ∷ h.trades k ∷ []), tt),
     (
-      stands-reads b codes_at 12 m 12 y.given.codes s.codes (omega arith) (omega (arith, s.most)) h.given.codes,
+      stands-reads b codes_at code_size m code_size y.given.codes s.codes (omega arith) (omega (arith, s.most)) h.given.codes,
       (
-        stands-reads b terms_at 6 m 6 term_rows term-shape (omega arith) (omega (arith, s.most)) h.given.terms,
+        stands-reads b terms_at term_size m term_size term_rows term-shape (omega arith) (omega (arith, s.most)) h.given.terms,
         (
-          stands-reads b receipts_at 32 n m y.given.receipts s.receipts s.most (omega (arith, s.few)) h.given.receipts,
+          stands-reads b receipts_at most_issues n m y.given.receipts s.receipts s.most (omega (arith, s.few)) h.given.receipts,
           (
             cube-reads b pairs_at y.given.pairs s.pairs (omega arith) h.given.pairs,
             (
-              stands-reads b positions_at 12 7 n position_rows position-shape s.few (omega arith) h.positions,
+              stands-reads b positions_at most_participants 7 n position_rows position-shape s.few (omega arith) h.positions,
               (
-                stands-reads b notices_at 32 n m y.state.notices s.notices s.most (omega (arith, s.few)) h.notices,
+                stands-reads b notices_at most_issues n m y.state.notices s.notices s.most (omega (arith, s.few)) h.notices,
                 (
                   cube-reads b today_at y.state.today s.today (omega arith) h.today,
-                  (stands-reads b tally_at 32 n m tally_rows tally-shape s.most (omega (arith, s.few)) h.tally, tt),
+                  (stands-reads b tally_at most_issues n m tally_rows tally-shape s.most (omega (arith, s.few)) h.tally, tt),
                 ),
               ),
             ),
@@ -379,9 +379,9 @@ module _ (y : Day) (s : Shaped y) where
   reads-given b h =
       let r : Every (Every (Reads b)) (given_tables y.given) = every-parts (Reads b) (given_tables y.given) h in
       record {
-        codes = reads-stands b codes_at 12 m 12 y.given.codes s.codes r.0;
-        terms = reads-stands b terms_at 6 m 6 term_rows term-shape r.1.0;
-        receipts = reads-stands b receipts_at 32 n m y.given.receipts s.receipts r.1.1.0;
+        codes = reads-stands b codes_at code_size m code_size y.given.codes s.codes r.0;
+        terms = reads-stands b terms_at term_size m term_size term_rows term-shape r.1.0;
+        receipts = reads-stands b receipts_at most_issues n m y.given.receipts s.receipts r.1.1.0;
         pairs = cube-stands b pairs_at y.given.pairs s.pairs r.1.1.1.0;
       }
 
@@ -395,10 +395,10 @@ module _ (y : Day) (s : Shaped y) where
         runs = ap (λ (l : List ℕ). get_or l 2 0) head;
         trades = ap (λ (l : List ℕ). get_or l 3 0) head;
         given = reads-given b (every-join (Reads b) (given_tables y.given) (r.1.0, (r.1.1.0, (r.1.1.1.0, (r.1.1.1.1.0, tt)))));
-        positions = reads-stands b positions_at 12 7 n position_rows position-shape r.1.1.1.1.1.0;
-        notices = reads-stands b notices_at 32 n m y.state.notices s.notices r.1.1.1.1.1.1.0;
+        positions = reads-stands b positions_at most_participants 7 n position_rows position-shape r.1.1.1.1.1.0;
+        notices = reads-stands b notices_at most_issues n m y.state.notices s.notices r.1.1.1.1.1.1.0;
         today = cube-stands b today_at y.state.today s.today r.1.1.1.1.1.1.1.0;
-        tally = reads-stands b tally_at 32 n m tally_rows tally-shape r.1.1.1.1.1.1.1.1.0;
+        tally = reads-stands b tally_at most_issues n m tally_rows tally-shape r.1.1.1.1.1.1.1.1.0;
       }
 
   -- ---- the laws
@@ -442,19 +442,19 @@ module _ (y : Day) (s : Shaped y) where
       of_row at stride p k l t c h v =
           subst (λ (i : ℕ). (j < at + stride * p) ⊎ (at + stride * p + i ≤ j)) (c.cells p h) (rows-at (Outside j) stride t at v p (omega (arith, c.rows)))
 
-      pub outside-position : (k : ℕ) → k < 7 → (j < positions_at + 12 * k) ⊎ (positions_at + 12 * k + n ≤ j)
-      outside-position k h = of_row positions_at 12 k 7 n position_rows position-shape h parts.1.1.1.1.1.0
+      pub outside-position : (k : ℕ) → k < 7 → (j < position_row k) ⊎ (position_cell k n ≤ j)
+      outside-position k h = of_row positions_at most_participants k 7 n position_rows position-shape h parts.1.1.1.1.1.0
 
-      pub outside-notice : (p : ℕ) → p < n → (j < notices_at + 32 * p) ⊎ (notices_at + 32 * p + m ≤ j)
-      outside-notice p h = of_row notices_at 32 p n m y.state.notices s.notices h parts.1.1.1.1.1.1.0
+      pub outside-notice : (p : ℕ) → p < n → (j < lots_row notices_at p) ⊎ (lots_cell notices_at p m ≤ j)
+      outside-notice p h = of_row notices_at most_issues p n m y.state.notices s.notices h parts.1.1.1.1.1.1.0
 
-      pub outside-pair : (k p : ℕ) → k < 7 → p < n → (j < today_at + 144 * k + 12 * p) ⊎ (today_at + 144 * k + 12 * p + n ≤ j)
+      pub outside-pair : (k p : ℕ) → k < 7 → p < n → (j < mark_square today_at k + 12 * p) ⊎ (mark_square today_at k + 12 * p + n ≤ j)
       outside-pair k p l h =
-          of_row (today_at + 144 * k) 12 p n n (row y.state.today k) (s.today k l) h
-          (joined_at (Outside j) 7 (λ k. rows_at (today_at + 144 * k) 12 (row y.state.today k)) parts.1.1.1.1.1.1.1.0 k l)
+          of_row (mark_square today_at k) most_participants p n n (row y.state.today k) (s.today k l) h
+          (joined_at (Outside j) 7 (λ k. rows_at (mark_square today_at k) most_participants (row y.state.today k)) parts.1.1.1.1.1.1.1.0 k l)
 
-      pub outside-tally : (p : ℕ) → p < n → (j < tally_at + 32 * p) ⊎ (tally_at + 32 * p + m ≤ j)
-      outside-tally p h = of_row tally_at 32 p n m tally_rows tally-shape h parts.1.1.1.1.1.1.1.1.0
+      pub outside-tally : (p : ℕ) → p < n → (j < lots_row tally_at p) ⊎ (lots_row tally_at p + m ≤ j)
+      outside-tally p h = of_row tally_at most_issues p n m tally_rows tally-shape h parts.1.1.1.1.1.1.1.1.0
 
   -- ---- what a book that has the day's cells is viewed as
 
@@ -462,54 +462,54 @@ module _ (y : Day) (s : Shaped y) where
     pub positions : (k p : ℕ) → k < 7 → p < n → Signs (cell y.state.owed k p) (cell y.state.due k p)
     pub tally : (p i : ℕ) → p < n → i < m → Signs (cell y.state.delivered p i) (cell y.state.received p i)
 
-  cube-view : (b : List ℕ) (at : ℕ) (t : List (List (List ℕ))) → length t ≡ 7 → ((k : ℕ) → k < 7 → Shape (row t k) n n) → at + 144 * 7 ≤ length b
-      → ((k : ℕ) → k < 7 → Stands b (at + 144 * k) 12 n n (row t k)) → cube b at n ≡ t
-  cube-view b at t e c fit h = ext_get_or [] (cube b at n) t (length-table 7 (λ k. grid b (at + 144 * k) 12 n n) ∙ sym e) (λ k l.
-      let k' : k < 7 = omega (arith, length-table 7 (λ k. grid b (at + 144 * k) 12 n n)) in
-      get_or-table 7 (λ k. grid b (at + 144 * k) 12 n n) k [] k'
-      ∙ stands-grid b (at + 144 * k) 12 n n (row t k) (c k k') s.few (omega (arith, s.few)) (h k k'))
+  cube-view : (b : List ℕ) (at : ℕ) (t : List (List (List ℕ))) → length t ≡ 7 → ((k : ℕ) → k < 7 → Shape (row t k) n n) → mark_square at 7 ≤ length b
+      → ((k : ℕ) → k < 7 → Stands b (mark_square at k) most_participants n n (row t k)) → cube b at n ≡ t
+  cube-view b at t e c fit h = ext_get_or [] (cube b at n) t (length-table 7 (λ k. grid b (mark_square at k) most_participants n n) ∙ sym e) (λ k l.
+      let k' : k < 7 = omega (arith, length-table 7 (λ k. grid b (mark_square at k) most_participants n n)) in
+      get_or-table 7 (λ k. grid b (mark_square at k) most_participants n n) k [] k'
+      ∙ stands-grid b (mark_square at k) most_participants n n (row t k) (c k k') s.few (omega (arith, s.few)) (h k k'))
 
   module _ (b : List ℕ) (size : length b ≡ book_length) (h : Holds b y) (g : Signed) where
-    position-grid : grid b positions_at 12 7 n ≡ position_rows
-    position-grid = stands-grid b positions_at 12 7 n position_rows position-shape s.few (omega arith) h.positions
+    position-grid : grid b positions_at most_participants 7 n ≡ position_rows
+    position-grid = stands-grid b positions_at most_participants 7 n position_rows position-shape s.few (omega arith) h.positions
 
-    tally-grid : grid b tally_at 32 n m ≡ tally_rows
-    tally-grid = stands-grid b tally_at 32 n m tally_rows tally-shape s.most (omega (arith, s.few)) h.tally
+    tally-grid : grid b tally_at most_issues n m ≡ tally_rows
+    tally-grid = stands-grid b tally_at most_issues n m tally_rows tally-shape s.most (omega (arith, s.few)) h.tally
 
-    term-grid : grid b terms_at 6 m 6 ≡ term_rows
-    term-grid = stands-grid b terms_at 6 m 6 term_rows term-shape (omega arith) (omega (arith, s.most)) h.given.terms
+    term-grid : grid b terms_at term_size m term_size ≡ term_rows
+    term-grid = stands-grid b terms_at term_size m term_size term_rows term-shape (omega arith) (omega (arith, s.most)) h.given.terms
 
     pub holds-view : view b ≡ y
     unfolding view
     holds-view =
         let en : get_or b 0 0 ≡ n = h.participants in
         let em : get_or b 1 0 ≡ m = h.issues in
-        let codes : grid b codes_at 12 (get_or b 1 0) 12 ≡ y.given.codes =
-        ap (λ (j : ℕ). grid b codes_at 12 j 12) em ∙ stands-grid b codes_at 12 m 12 y.given.codes s.codes (omega arith) (omega (arith, s.most)) h.given.codes in
-        let terms : map terms_of (grid b terms_at 6 (get_or b 1 0) 6) ≡ y.given.terms =
-        ap (λ (j : ℕ). map terms_of (grid b terms_at 6 j 6)) em
+        let codes : grid b codes_at code_size (get_or b 1 0) code_size ≡ y.given.codes =
+        ap (λ (j : ℕ). grid b codes_at code_size j code_size) em ∙ stands-grid b codes_at code_size m code_size y.given.codes s.codes (omega arith) (omega (arith, s.most)) h.given.codes in
+        let terms : map terms_of (grid b terms_at term_size (get_or b 1 0) term_size) ≡ y.given.terms =
+        ap (λ (j : ℕ). map terms_of (grid b terms_at term_size j term_size)) em
         ∙ ap (map terms_of) term-grid ∙ terms-back y.given s.terms in
-        let marks : map marks_of (grid b terms_at 6 (get_or b 1 0) 6) ≡ y.given.marks =
-        ap (λ (j : ℕ). map marks_of (grid b terms_at 6 j 6)) em ∙ ap (map marks_of) term-grid ∙ marks-back y.given s.marks in
-        let receipts : grid b receipts_at 32 (get_or b 0 0) (get_or b 1 0) ≡ y.given.receipts =
-        ap₂ (grid b receipts_at 32) en em ∙ stands-grid b receipts_at 32 n m y.given.receipts s.receipts s.most (omega (arith, s.few)) h.given.receipts in
+        let marks : map marks_of (grid b terms_at term_size (get_or b 1 0) term_size) ≡ y.given.marks =
+        ap (λ (j : ℕ). map marks_of (grid b terms_at term_size j term_size)) em ∙ ap (map marks_of) term-grid ∙ marks-back y.given s.marks in
+        let receipts : grid b receipts_at most_issues (get_or b 0 0) (get_or b 1 0) ≡ y.given.receipts =
+        ap₂ (grid b receipts_at 32) en em ∙ stands-grid b receipts_at most_issues n m y.given.receipts s.receipts s.most (omega (arith, s.few)) h.given.receipts in
         let pairs : cube b pairs_at (get_or b 0 0) ≡ y.given.pairs =
         ap (cube b pairs_at) en ∙ cube-view b pairs_at y.given.pairs s.baskets s.pairs (omega arith) h.given.pairs in
-        let positions : (f : ℕ → ℕ) → map (map f) (grid b positions_at 12 baskets (get_or b 0 0)) ≡ map (map f) position_rows =
-        λ f. ap (λ (j : ℕ). map (map f) (grid b positions_at 12 baskets j)) en ∙ ap (map (map f)) position-grid in
-        let notices : grid b notices_at 32 (get_or b 0 0) (get_or b 1 0) ≡ y.state.notices =
-        ap₂ (grid b notices_at 32) en em ∙ stands-grid b notices_at 32 n m y.state.notices s.notices s.most (omega (arith, s.few)) h.notices in
+        let positions : (f : ℕ → ℕ) → map (map f) (grid b positions_at most_participants baskets (get_or b 0 0)) ≡ map (map f) position_rows =
+        λ f. ap (λ (j : ℕ). map (map f) (grid b positions_at most_participants baskets j)) en ∙ ap (map (map f)) position-grid in
+        let notices : grid b notices_at most_issues (get_or b 0 0) (get_or b 1 0) ≡ y.state.notices =
+        ap₂ (grid b notices_at 32) en em ∙ stands-grid b notices_at most_issues n m y.state.notices s.notices s.most (omega (arith, s.few)) h.notices in
         let today : cube b today_at (get_or b 0 0) ≡ y.state.today =
         ap (cube b today_at) en ∙ cube-view b today_at y.state.today s.today_baskets s.today (omega arith) h.today in
-        let tally : (f : ℕ → ℕ) → map (map f) (grid b tally_at 32 (get_or b 0 0) (get_or b 1 0)) ≡ map (map f) tally_rows =
+        let tally : (f : ℕ → ℕ) → map (map f) (grid b tally_at most_issues (get_or b 0 0) (get_or b 1 0)) ≡ map (map f) tally_rows =
         λ f. ap (map (map f)) (ap₂ (grid b tally_at 32) en em ∙ tally-grid) in
-        let owed : map (map plus) (grid b positions_at 12 baskets (get_or b 0 0)) ≡ y.state.owed =
+        let owed : map (map plus) (grid b positions_at most_participants baskets (get_or b 0 0)) ≡ y.state.owed =
         positions plus ∙ parts-of plus y.state.owed y.state.due y.state.owed 7 n s.owed s.owed (λ k p l j. plus-signed (g.positions k p l j)) in
-        let due : map (map minus) (grid b positions_at 12 baskets (get_or b 0 0)) ≡ y.state.due =
+        let due : map (map minus) (grid b positions_at most_participants baskets (get_or b 0 0)) ≡ y.state.due =
         positions minus ∙ parts-of minus y.state.owed y.state.due y.state.due 7 n s.owed s.due (λ k p l j. minus-signed (g.positions k p l j)) in
-        let delivered : map (map plus) (grid b tally_at 32 (get_or b 0 0) (get_or b 1 0)) ≡ y.state.delivered =
+        let delivered : map (map plus) (grid b tally_at most_issues (get_or b 0 0) (get_or b 1 0)) ≡ y.state.delivered =
         tally plus ∙ parts-of plus y.state.delivered y.state.received y.state.delivered n m s.delivered s.delivered (λ p i l j. plus-signed (g.tally p i l j)) in
-        let received : map (map minus) (grid b tally_at 32 (get_or b 0 0) (get_or b 1 0)) ≡ y.state.received =
+        let received : map (map minus) (grid b tally_at most_issues (get_or b 0 0) (get_or b 1 0)) ≡ y.state.received =
         tally minus ∙ parts-of minus y.state.delivered y.state.received y.state.received n m s.delivered s.received (λ p i l j. minus-signed (g.tally p i l j)) in
         λ i. record {
           given = record { participants = en i; issues = em i; codes = codes i; terms = terms i; marks = marks i; receipts = receipts i; pairs = pairs i };
@@ -545,7 +545,7 @@ row-again : (t : List (List ℕ)) (i : ℕ) → i < length t
     → terms_row (get_or (map terms_of t) i no_terms) (get_or (map marks_of t) i no_marks) ≡ terms_row (terms_of (row t i)) (marks_of (row t i))
 row-again t i l = ap₂ terms_row (get_d_map terms_of t i [] no_terms l) (get_d_map marks_of t i [] no_marks l)
 
-pub terms-rows : (g : Given) (t : List (List ℕ)) → g.terms ≡ map terms_of t → g.marks ≡ map marks_of t → Shape t g.issues 6 → terms_rows g ≡ t
+pub terms-rows : (g : Given) (t : List (List ℕ)) → g.terms ≡ map terms_of t → g.marks ≡ map marks_of t → Shape t g.issues term_size → terms_rows g ≡ t
 terms-rows g t e q s =
     ext_get_or [] (terms_rows g) t (terms-length g ∙ sym s.rows) (λ p l.
     let k : p < g.issues = omega (arith, terms-length g) in
@@ -578,56 +578,56 @@ pub record Readable (b : List ℕ) : Type 0 where
   pub words : (j : ℕ) → get_or b j 0 < 18446744073709551616
 
 module _ (b : List ℕ) (r : Readable b) where
-  position-read : Shape (grid b positions_at 12 7 (get_or b 0 0)) 7 (get_or b 0 0)
-  position-read = grid-shape b positions_at 12 7 (get_or b 0 0) r.few (omega (arith, r.size))
+  position-read : Shape (grid b positions_at most_participants 7 (get_or b 0 0)) 7 (get_or b 0 0)
+  position-read = grid-shape b positions_at most_participants 7 (get_or b 0 0) r.few (omega (arith, r.size))
 
-  tally-read : Shape (grid b tally_at 32 (get_or b 0 0) (get_or b 1 0)) (get_or b 0 0) (get_or b 1 0)
-  tally-read = grid-shape b tally_at 32 (get_or b 0 0) (get_or b 1 0) r.most (omega (arith, r.size, r.few))
+  tally-read : Shape (grid b tally_at most_issues (get_or b 0 0) (get_or b 1 0)) (get_or b 0 0) (get_or b 1 0)
+  tally-read = grid-shape b tally_at most_issues (get_or b 0 0) (get_or b 1 0) r.most (omega (arith, r.size, r.few))
 
-  cube-row : (at k : ℕ) → k < 7 → row (cube b at (get_or b 0 0)) k ≡ grid b (at + 144 * k) 12 (get_or b 0 0) (get_or b 0 0)
-  cube-row at k l = get_or-table 7 (λ k. grid b (at + 144 * k) 12 (get_or b 0 0) (get_or b 0 0)) k [] l
+  cube-row : (at k : ℕ) → k < 7 → row (cube b at (get_or b 0 0)) k ≡ grid b (mark_square at k) most_participants (get_or b 0 0) (get_or b 0 0)
+  cube-row at k l = get_or-table 7 (λ k. grid b (mark_square at k) most_participants (get_or b 0 0) (get_or b 0 0)) k [] l
 
-  cube-read : (at : ℕ) → at + 144 * 7 ≤ book_length → (k : ℕ) → k < 7 → Shape (row (cube b at (get_or b 0 0)) k) (get_or b 0 0) (get_or b 0 0)
-  cube-read at fit k l = rw (cube-row at k l) (grid-shape b (at + 144 * k) 12 (get_or b 0 0) (get_or b 0 0) r.few (omega (arith, r.size, r.few)))
+  cube-read : (at : ℕ) → mark_square at 7 ≤ book_length → (k : ℕ) → k < 7 → Shape (row (cube b at (get_or b 0 0)) k) (get_or b 0 0) (get_or b 0 0)
+  cube-read at fit k l = rw (cube-row at k l) (grid-shape b (mark_square at k) most_participants (get_or b 0 0) (get_or b 0 0) r.few (omega (arith, r.size, r.few)))
 
   pub view-shaped : Shaped (view b)
   unfolding view
   view-shaped = record {
     few = r.few;
     most = r.most;
-    codes = grid-shape b codes_at 12 (get_or b 1 0) 12 (omega arith) (omega (arith, r.size, r.most));
-    terms = length-map (grid b terms_at 6 (get_or b 1 0) 6) terms_of ∙ length-table (get_or b 1 0) _;
-    marks = length-map (grid b terms_at 6 (get_or b 1 0) 6) marks_of ∙ length-table (get_or b 1 0) _;
-    receipts = grid-shape b receipts_at 32 (get_or b 0 0) (get_or b 1 0) r.most (omega (arith, r.size, r.few));
+    codes = grid-shape b codes_at code_size (get_or b 1 0) code_size (omega arith) (omega (arith, r.size, r.most));
+    terms = length-map (grid b terms_at term_size (get_or b 1 0) term_size) terms_of ∙ length-table (get_or b 1 0) _;
+    marks = length-map (grid b terms_at term_size (get_or b 1 0) term_size) marks_of ∙ length-table (get_or b 1 0) _;
+    receipts = grid-shape b receipts_at most_issues (get_or b 0 0) (get_or b 1 0) r.most (omega (arith, r.size, r.few));
     pairs = cube-read pairs_at (omega arith);
-    baskets = length-table 7 (λ k. grid b (pairs_at + 144 * k) 12 (get_or b 0 0) (get_or b 0 0));
-    owed = map-shape plus (grid b positions_at 12 7 (get_or b 0 0)) 7 (get_or b 0 0) position-read;
-    due = map-shape minus (grid b positions_at 12 7 (get_or b 0 0)) 7 (get_or b 0 0) position-read;
-    notices = grid-shape b notices_at 32 (get_or b 0 0) (get_or b 1 0) r.most (omega (arith, r.size, r.few));
+    baskets = length-table 7 (λ k. grid b (mark_square pairs_at k) most_participants (get_or b 0 0) (get_or b 0 0));
+    owed = map-shape plus (grid b positions_at most_participants 7 (get_or b 0 0)) 7 (get_or b 0 0) position-read;
+    due = map-shape minus (grid b positions_at most_participants 7 (get_or b 0 0)) 7 (get_or b 0 0) position-read;
+    notices = grid-shape b notices_at most_issues (get_or b 0 0) (get_or b 1 0) r.most (omega (arith, r.size, r.few));
     today = cube-read today_at (omega arith);
-    today_baskets = length-table 7 (λ k. grid b (today_at + 144 * k) 12 (get_or b 0 0) (get_or b 0 0));
-    delivered = map-shape plus (grid b tally_at 32 (get_or b 0 0) (get_or b 1 0)) (get_or b 0 0) (get_or b 1 0) tally-read;
-    received = map-shape minus (grid b tally_at 32 (get_or b 0 0) (get_or b 1 0)) (get_or b 0 0) (get_or b 1 0) tally-read;
+    today_baskets = length-table 7 (λ k. grid b (mark_square today_at k) most_participants (get_or b 0 0) (get_or b 0 0));
+    delivered = map-shape plus (grid b tally_at most_issues (get_or b 0 0) (get_or b 1 0)) (get_or b 0 0) (get_or b 1 0) tally-read;
+    received = map-shape minus (grid b tally_at most_issues (get_or b 0 0) (get_or b 1 0)) (get_or b 0 0) (get_or b 1 0) tally-read;
   }
 
   pub view-signed : Signed (view b) view-shaped
   unfolding view
   view-signed = record {
-    positions = split-signs b positions_at 12 7 (get_or b 0 0) r.words position-read;
-    tally = split-signs b tally_at 32 (get_or b 0 0) (get_or b 1 0) r.words tally-read;
+    positions = split-signs b positions_at most_participants 7 (get_or b 0 0) r.words position-read;
+    tally = split-signs b tally_at most_issues (get_or b 0 0) (get_or b 1 0) r.words tally-read;
   }
 
-  cube-holds : (at k : ℕ) → k < 7 → Stands b (at + 144 * k) 12 (get_or b 0 0) (get_or b 0 0) (row (cube b at (get_or b 0 0)) k)
-  cube-holds at k l = rw (cube-row at k l) (grid-stands b (at + 144 * k) 12 (get_or b 0 0) (get_or b 0 0))
+  cube-holds : (at k : ℕ) → k < 7 → Stands b (mark_square at k) most_participants (get_or b 0 0) (get_or b 0 0) (row (cube b at (get_or b 0 0)) k)
+  cube-holds at k l = rw (cube-row at k l) (grid-stands b (mark_square at k) most_participants (get_or b 0 0) (get_or b 0 0))
 
-  term-read : Shape (grid b terms_at 6 (get_or b 1 0) 6) (get_or b 1 0) 6
-  term-read = grid-shape b terms_at 6 (get_or b 1 0) 6 (omega arith) (omega (arith, r.size, r.most))
+  term-read : Shape (grid b terms_at term_size (get_or b 1 0) term_size) (get_or b 1 0) 6
+  term-read = grid-shape b terms_at term_size (get_or b 1 0) term_size (omega arith) (omega (arith, r.size, r.most))
 
-  terms-holds : Stands b terms_at 6 (get_or b 1 0) 6 (terms_rows (view b).given)
+  terms-holds : Stands b terms_at term_size (get_or b 1 0) term_size (terms_rows (view b).given)
   unfolding view
   terms-holds =
-      let g : List (List ℕ) = grid b terms_at 6 (get_or b 1 0) 6 in
-      rw (terms-rows (view b).given g refl refl term-read) (grid-stands b terms_at 6 (get_or b 1 0) 6)
+      let g : List (List ℕ) = grid b terms_at term_size (get_or b 1 0) term_size in
+      rw (terms-rows (view b).given g refl refl term-read) (grid-stands b terms_at term_size (get_or b 1 0) term_size)
 
   pub view-holds : Holds b (view b)
   unfolding view
@@ -637,15 +637,15 @@ module _ (b : List ℕ) (r : Readable b) where
     runs = refl;
     trades = refl;
     given = record {
-      codes = grid-stands b codes_at 12 (get_or b 1 0) 12;
+      codes = grid-stands b codes_at code_size (get_or b 1 0) code_size;
       terms = terms-holds;
-      receipts = grid-stands b receipts_at 32 (get_or b 0 0) (get_or b 1 0);
+      receipts = grid-stands b receipts_at most_issues (get_or b 0 0) (get_or b 1 0);
       pairs = cube-holds pairs_at;
     };
-    positions = split-stands b positions_at 12 7 (get_or b 0 0) r.words position-read;
-    notices = grid-stands b notices_at 32 (get_or b 0 0) (get_or b 1 0);
+    positions = split-stands b positions_at most_participants 7 (get_or b 0 0) r.words position-read;
+    notices = grid-stands b notices_at most_issues (get_or b 0 0) (get_or b 1 0);
     today = cube-holds today_at;
-    tally = split-stands b tally_at 32 (get_or b 0 0) (get_or b 1 0) r.words tally-read;
+    tally = split-stands b tally_at most_issues (get_or b 0 0) (get_or b 1 0) r.words tally-read;
   }
 
   -- what is viewed, stored again, changes nothing
@@ -657,28 +657,28 @@ module _ (b : List ℕ) (r : Readable b) where
 module _ (y : Day) (s : Shaped y) (b c : List ℕ) where
   pub given-kept : ((j : ℕ) → 4 ≤ j → j < positions_at → get_or c j 0 ≡ get_or b j 0) → HoldsGiven b y.given → HoldsGiven c y.given
   given-kept same v = record {
-    codes = stands-agree b c codes_at 12 y.given.issues 12 y.given.codes (omega arith) (λ j l k. same j (omega arith) (omega (arith, s.most))) v.codes;
-    terms = stands-agree b c terms_at 6 y.given.issues 6 (terms_rows y.given) (omega arith) (λ j l k. same j (omega arith) (omega (arith, s.most))) v.terms;
-    receipts = stands-agree b c receipts_at 32 y.given.participants y.given.issues y.given.receipts s.most (λ j l k. same j (omega arith) (omega (arith, s.few))) v.receipts;
-    pairs = λ q h. stands-agree b c (pairs_at + 144 * q) 12 y.given.participants y.given.participants (row y.given.pairs q) s.few (λ j l k. same j (omega arith) (omega (arith, s.few))) (v.pairs q h);
+    codes = stands-agree b c codes_at code_size y.given.issues code_size y.given.codes (omega arith) (λ j l k. same j (omega arith) (omega (arith, s.most))) v.codes;
+    terms = stands-agree b c terms_at term_size y.given.issues term_size (terms_rows y.given) (omega arith) (λ j l k. same j (omega arith) (omega (arith, s.most))) v.terms;
+    receipts = stands-agree b c receipts_at most_issues y.given.participants y.given.issues y.given.receipts s.most (λ j l k. same j (omega arith) (omega (arith, s.few))) v.receipts;
+    pairs = λ q h. stands-agree b c (mark_square pairs_at q) most_participants y.given.participants y.given.participants (row y.given.pairs q) s.few (λ j l k. same j (omega arith) (omega (arith, s.few))) (v.pairs q h);
   }
 
   pub positions-kept : ((j : ℕ) → positions_at ≤ j → j < notices_at → get_or c j 0 ≡ get_or b j 0) → Holds b y
-      → Stands c positions_at 12 7 y.given.participants (signed_rows y.state.owed y.state.due)
+      → Stands c positions_at most_participants 7 y.given.participants (signed_rows y.state.owed y.state.due)
   positions-kept same v =
-      stands-agree b c positions_at 12 7 y.given.participants (signed_rows y.state.owed y.state.due) s.few (λ j l k. same j l (omega arith)) v.positions
+      stands-agree b c positions_at most_participants 7 y.given.participants (signed_rows y.state.owed y.state.due) s.few (λ j l k. same j l (omega arith)) v.positions
 
   pub notices-kept : ((j : ℕ) → notices_at ≤ j → j < today_at → get_or c j 0 ≡ get_or b j 0) → Holds b y
-      → Stands c notices_at 32 y.given.participants y.given.issues y.state.notices
+      → Stands c notices_at most_issues y.given.participants y.given.issues y.state.notices
   notices-kept same v =
-      stands-agree b c notices_at 32 y.given.participants y.given.issues y.state.notices s.most (λ j l k. same j l (omega (arith, s.few))) v.notices
+      stands-agree b c notices_at most_issues y.given.participants y.given.issues y.state.notices s.most (λ j l k. same j l (omega (arith, s.few))) v.notices
 
   pub today-kept : ((j : ℕ) → today_at ≤ j → j < tally_at → get_or c j 0 ≡ get_or b j 0) → Holds b y
-      → (k : ℕ) → k < 7 → Stands c (today_at + 144 * k) 12 y.given.participants y.given.participants (row y.state.today k)
+      → (k : ℕ) → k < 7 → Stands c (mark_square today_at k) most_participants y.given.participants y.given.participants (row y.state.today k)
   today-kept same v q h =
-      stands-agree b c (today_at + 144 * q) 12 y.given.participants y.given.participants (row y.state.today q) s.few (λ j l k. same j (omega arith) (omega (arith, s.few))) (v.today q h)
+      stands-agree b c (mark_square today_at q) most_participants y.given.participants y.given.participants (row y.state.today q) s.few (λ j l k. same j (omega arith) (omega (arith, s.few))) (v.today q h)
 
   pub tally-kept : ((j : ℕ) → tally_at ≤ j → get_or c j 0 ≡ get_or b j 0) → Holds b y
-      → Stands c tally_at 32 y.given.participants y.given.issues (signed_rows y.state.delivered y.state.received)
+      → Stands c tally_at most_issues y.given.participants y.given.issues (signed_rows y.state.delivered y.state.received)
   tally-kept same v =
-      stands-agree b c tally_at 32 y.given.participants y.given.issues (signed_rows y.state.delivered y.state.received) s.most (λ j l k. same j l) v.tally
+      stands-agree b c tally_at most_issues y.given.participants y.given.issues (signed_rows y.state.delivered y.state.received) s.most (λ j l k. same j l) v.tally

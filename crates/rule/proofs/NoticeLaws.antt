@@ -1,7 +1,7 @@
 -- Laws of a notice: one row of the book is written, and no other cell; an accepted one leaves a sound day. Assumes nothing.
 use mathlib.Core.Path.{◌≡◌, sym, ◌∙◌, subst}
 use mathlib.Core.Logic.{◌⊎◌, inl, inr, ◌≢◌}
-use Prim.Native.Nat.{ℕ, ◌+◌, ◌*◌, ◌≤◌, ◌<◌}
+use Prim.Native.Nat.{ℕ, ◌+◌, ◌≤◌, ◌<◌}
 use native.Mathlib.Decide.{dec_lt, ℕ_discrete}
 use native.Mathlib.Omega.{arith}
 use mathlib.Core.List.{List, []}
@@ -14,7 +14,7 @@ use Rattle.lists.proofs.FoldLaws.{fold-kept, every-from}
 use Rattle.lists.proofs.TableLaws.{length-table, get_or-zeros, set-kept}
 use Rattle.lists.proofs.PartLaws.{Outside, Shape, Stands, length_over, over-in, over-out}
 use Rattle.rule.specs.Day.{Day, notice_row, noticed}
-use Rattle.rule.specs.Layout.{notices_at, today_at, view, tables_of, stored}
+use Rattle.rule.specs.Layout.{notices_at, today_at, view, tables_of, stored, lots_cell, lots_row, most_issues}
 use Rattle.rule.specs.Sound.{notice_limit}
 use Rattle.rule.proofs.SoundLaws.{Most, SoundDay}
 use Rattle.rule.proofs.LayoutLaws.{Shaped, Holds, Readable, given-kept, positions-kept, today-kept, tally-kept, outside-notice, view-shaped, view-holds, stored_is}
@@ -131,7 +131,7 @@ module _ (b : List ℕ) (r : Readable b) (p : ℕ) (issues lots : List ℕ) (h :
   written = notice_of_sender y s p issues lots h
 
   abbrev at : ℕ
-  at = notices_at + 32 * p
+  at = lots_row notices_at p
 
   abbrev after : List ℕ
   after = over b at written
@@ -142,14 +142,14 @@ module _ (b : List ℕ) (r : Readable b) (p : ℕ) (issues lots : List ℕ) (h :
   after-out : (j : ℕ) → (j < at) ⊎ (at + y.given.issues ≤ j) → get_or after j 0 ≡ get_or b j 0
   after-out j w = over-out b written at fits j (subst (λ (k : ℕ). (j < at) ⊎ (at + k ≤ j)) (sym (length-notice_row y.given.issues issues lots)) w)
 
-  notices-stand : Stands after notices_at 32 y.given.participants y.given.issues (rows y s p issues lots h)
+  notices-stand : Stands after notices_at most_issues y.given.participants y.given.issues (rows y s p issues lots h)
   notices-stand q i l k = go (ℕ_discrete q p)
     where
-      go : Dec (q ≡ p) → get_or after (notices_at + 32 * q + i) 0 ≡ cell (rows y s p issues lots h) q i
+      go : Dec (q ≡ p) → get_or after (lots_cell notices_at q i) 0 ≡ cell (rows y s p issues lots h) q i
       go (yes e) = rw (e, row-sender y s p issues lots h) (over-in b written at fits i (omega (arith, length-notice_row y.given.issues issues lots)))
-      go (no ne) = rw (row_other y s p issues lots h q ne) (after-out (notices_at + 32 * q + i) (apart (dec_lt q p)) ∙ (view-holds b r).notices q i l k)
+      go (no ne) = rw (row_other y s p issues lots h q ne) (after-out (lots_cell notices_at q i) (apart (dec_lt q p)) ∙ (view-holds b r).notices q i l k)
         where
-          apart : Dec (q < p) → (notices_at + 32 * q + i < at) ⊎ (at + y.given.issues ≤ notices_at + 32 * q + i)
+          apart : Dec (q < p) → (lots_cell notices_at q i < at) ⊎ (at + y.given.issues ≤ lots_cell notices_at q i)
           apart (yes a) = inl (omega (arith, s.most))
           apart (no a) = inr (omega (arith, s.most))
 

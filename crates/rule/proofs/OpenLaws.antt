@@ -19,8 +19,8 @@ use Rattle.lists.proofs.FoldLaws.{sum_zeros, every_map, every-join, every-parts}
 use Rattle.lists.proofs.TableLaws.{length-table, length-zeros, get_or-table, get_or-zeros}
 use Rattle.lists.proofs.PartLaws.{Inside, Outside, Shape, Stands, grid-shape, length-written, written_out, written-reads, rising-past}
 use Rattle.rule.specs.Isin.{codes_right}
-use Rattle.rule.specs.Day.{Given, baskets, mark, terms_of, given_of, opened, marks_of}
-use Rattle.rule.specs.Layout.{codes_at, positions_at, notices_at, today_at, tally_at, book_length, signed, signed_rows, given_tables, tables_of, stored}
+use Rattle.rule.specs.Day.{Given, baskets, mark, terms_of, given_of, opened, marks_of, code_size, term_size}
+use Rattle.rule.specs.Layout.{codes_at, positions_at, notices_at, today_at, tally_at, book_length, signed, signed_rows, given_tables, tables_of, stored, mark_square, most_issues, most_participants}
 use Rattle.rule.specs.Sound.{sizes_fit, all_terms_fit, at_most, receipts_fit, pairs_fit, position_limit, notice_limit, tally_limit}
 use Rattle.rule.proofs.SoundLaws.{Most, of-most, Sizes, sizes-of, SoundDay}
 use Rattle.rule.proofs.LayoutLaws.{Shaped, Signed, Signs, Holds, signed-cell, given_inside, given-rise, reads-given, outside-sizes, stored_is}
@@ -28,8 +28,8 @@ use Rattle.rule.proofs.LayoutLaws.{Shaped, Signed, Signs, Holds, signed-cell, gi
 -- what an accepted opening has shown of its data
 pub record Openable (n m : ℕ) (codes terms receipts pairs : List ℕ) : Type 0 where
   pub sizes : sizes_fit n m ≡ true
-  pub codes_size : length codes ≡ 12 * m
-  pub terms_size : length terms ≡ 6 * m
+  pub codes_size : length codes ≡ code_size * m
+  pub terms_size : length terms ≡ term_size * m
   pub receipts_size : length receipts ≡ n * m
   pub pairs_size : length pairs ≡ 7 * (n * n)
   pub codes_right : codes_right (given_of n m codes terms receipts pairs).codes ≡ true
@@ -82,8 +82,8 @@ module _ (n m : ℕ) (codes terms receipts pairs : List ℕ) (h : Openable n m c
     few = sizes.few;
     most = sizes.most;
     codes = grid-shape codes 0 12 m 12 (omega arith) (omega (arith, h.codes_size));
-    terms = length-map (grid terms 0 6 m 6) terms_of ∙ length-table m _;
-    marks = length-map (grid terms 0 6 m 6) marks_of ∙ length-table m _;
+    terms = length-map (grid terms 0 term_size m term_size) terms_of ∙ length-table m _;
+    marks = length-map (grid terms 0 term_size m term_size) marks_of ∙ length-table m _;
     receipts = grid-shape receipts 0 m n m (le_refl m) (omega (arith, h.receipts_size, mul_comm n m));
     pairs = λ k l. subst (λ (rows : List (List ℕ)). Shape rows n n) (sym (get_or-table 7 (λ k. grid pairs (n * n * k) n n n) k [] l))
         (grid-shape pairs (n * n * k) n n n (le_refl n) (omega (arith, h.pairs_size, mul-le-mul_left (n * n) l, mul-suc (n * n) k, mul_comm (n * n) 7)));
@@ -182,10 +182,10 @@ module _ (n m : ℕ) (codes terms receipts pairs : List ℕ) (h : Openable n m c
     runs = before-tables 2 (omega arith) ∙ sized-else 2 (omega arith);
     trades = before-tables 3 (omega arith) ∙ sized-else 3 (omega arith);
     given = reads-given (opened g) opened-shaped after (written-reads (joined (given_tables g)) sized codes_at inside (given-rise (opened g) opened-shaped));
-    positions = signed-table positions_at 12 7 n (omega arith);
-    notices = zero-table notices_at 32 n m (omega arith);
-    today = λ k l. rw (get_or-table 7 (λ k. zero_rows n n) k [] l) (zero-table (today_at + 144 * k) 12 n n (omega arith));
-    tally = signed-table tally_at 32 n m (omega arith);
+    positions = signed-table positions_at most_participants 7 n (omega arith);
+    notices = zero-table notices_at most_issues n m (omega arith);
+    today = λ k l. rw (get_or-table 7 (λ k. zero_rows n n) k [] l) (zero-table (mark_square today_at k) most_participants n n (omega arith));
+    tally = signed-table tally_at most_issues n m (omega arith);
   }
 
   frame : (j : ℕ) → Every (Outside j) (joined (tables_of (opened g))) → get_or after j 0 ≡ get_or blank j 0

@@ -1,7 +1,7 @@
 -- A trade in the book: two positions and the trade count are stored, and no other cell. Assumes nothing.
 use mathlib.Core.Path.{◌≡◌, sym, ap₂, ◌∙◌}
 use mathlib.Core.Logic.{◌⊎◌, inl, inr, ◌≢◌}
-use Prim.Native.Nat.{ℕ, ◌+◌, ◌-◌, ◌*◌, ◌%◌, ◌≤◌, ◌<◌}
+use Prim.Native.Nat.{ℕ, ◌+◌, ◌-◌, ◌%◌, ◌≤◌, ◌<◌}
 use native.Mathlib.Decide.{dec_lt}
 use native.Mathlib.Omega.{arith}
 use mathlib.Core.List.{List}
@@ -11,7 +11,7 @@ use Rattle.lists.specs.Tables.{cell}
 use Rattle.lists.specs.Folds.{joined, Every}
 use Rattle.lists.proofs.PartLaws.{Outside, Stands}
 use Rattle.rule.specs.Day.{Day, traded}
-use Rattle.rule.specs.Layout.{positions_at, notices_at, book_length, plus, minus, signed, signed_rows, view, tables_of, stored}
+use Rattle.rule.specs.Layout.{positions_at, notices_at, book_length, plus, minus, signed, signed_rows, view, tables_of, stored, most_participants, position_cell, position_row}
 use Rattle.rule.specs.Sound.{position_limit}
 use Rattle.rule.proofs.LayoutLaws.{Shaped, Holds, Readable, given-kept, notices-kept, today-kept, tally-kept, outside-sizes, outside-position, signed-cell, plus-out, plus-back, minus-out, minus-back, view-shaped, view-holds, stored_is}
 use Rattle.rule.proofs.TradeLaws.{Tradeable, owed2, due2, owed2-shape, traded-shaped, owed-seller, due-seller, owed-buyer, due-buyer, owed-other, due-other, which}
@@ -48,10 +48,10 @@ module _ (b : List ℕ) (r : Readable b) (seller buyer k yen sold bought count :
 
   -- the cells of the two positions
   abbrev at_seller : ℕ
-  at_seller = positions_at + 12 * k + seller
+  at_seller = position_cell k seller
 
   abbrev at_buyer : ℕ
-  at_buyer = positions_at + 12 * k + buyer
+  at_buyer = position_cell k buyer
 
   abbrev after : List ℕ
   after = set (set (set b at_seller sold) at_buyer bought) 3 count
@@ -93,14 +93,14 @@ module _ (b : List ℕ) (r : Readable b) (seller buyer k yen sold bought count :
   module _ (es : sold ≡ signed (cell y.state.owed k seller + yen - cell y.state.due k seller) (cell y.state.due k seller - (cell y.state.owed k seller + yen)))
       (eb : bought ≡ signed (cell y.state.owed k buyer - (cell y.state.due k buyer + yen)) (cell y.state.due k buyer + yen - cell y.state.owed k buyer))
       (ec : count ≡ y.state.trades + 1) where
-    positions-stand : Stands after positions_at 12 7 y.given.participants (signed_rows (owed2 y s seller buyer k yen h) (due2 y s seller buyer k yen h))
+    positions-stand : Stands after positions_at most_participants 7 y.given.participants (signed_rows (owed2 y s seller buyer k yen h) (due2 y s seller buyer k yen h))
     positions-stand j p l m =
         which y s seller buyer k yen h
-        (λ j p. j < 7 → p < y.given.participants → get_or after (positions_at + 12 * j + p) 0 ≡ cell (signed_rows (owed2 y s seller buyer k yen h) (due2 y s seller buyer k yen h)) j p)
+        (λ j p. j < 7 → p < y.given.participants → get_or after (position_cell j p) 0 ≡ cell (signed_rows (owed2 y s seller buyer k yen h) (due2 y s seller buyer k yen h)) j p)
         (λ l m. after-seller ∙ es ∙ sym (shown k seller l m ∙ ap₂ signed (owed-seller y s seller buyer k yen h) (due-seller y s seller buyer k yen h)))
         (λ l m. after-buyer ∙ eb ∙ sym (shown k buyer l m ∙ ap₂ signed (owed-buyer y s seller buyer k yen h) (due-buyer y s seller buyer k yen h)))
         (λ j p ne l m.
-        after-else (positions_at + 12 * j + p) (λ e. (ne (omega (arith, few, h.sells))).0 (omega (arith, few, h.sells))) (λ e. (ne (omega (arith, few, h.buys))).1 (omega (arith, few, h.buys))) (λ e. omega arith)
+        after-else (position_cell j p) (λ e. (ne (omega (arith, few, h.sells))).0 (omega (arith, few, h.sells))) (λ e. (ne (omega (arith, few, h.buys))).1 (omega (arith, few, h.buys))) (λ e. omega arith)
         ∙ (view-holds b r).positions j p l m
         ∙ signed-cell y.state.owed y.state.due 7 y.given.participants j p s.owed l m
         ∙ sym (shown j p l m ∙ ap₂ signed (owed-other y s seller buyer k yen h j p ne) (due-other y s seller buyer k yen h j p ne)))
@@ -130,11 +130,11 @@ module _ (b : List ℕ) (r : Readable b) (seller buyer k yen sold bought count :
     frame : (j : ℕ) → Every (Outside j) (joined (tables_of (traded y seller buyer k yen))) → get_or after j 0 ≡ get_or b j 0
     frame j q =
         let t : Shaped (traded y seller buyer k yen) = traded-shaped y s seller buyer k yen h in
-        let w : (j < positions_at + 12 * k) ⊎ (positions_at + 12 * k + y.given.participants ≤ j) =
+        let w : (j < position_row k) ⊎ (position_cell k y.given.participants ≤ j) =
         unfold traded in outside-position (traded y seller buyer k yen) t b r.size j q k h.basket in
         after-else j (λ e. apart_from seller h.sells w e) (λ e. apart_from buyer h.buys w e) (λ e. omega (arith, outside-sizes (traded y seller buyer k yen) t b r.size j q))
       where
-        apart_from : (p : ℕ) → p < y.given.participants → (j < positions_at + 12 * k) ⊎ (positions_at + 12 * k + y.given.participants ≤ j) → j ≡ positions_at + 12 * k + p → ⊥
+        apart_from : (p : ℕ) → p < y.given.participants → (j < position_row k) ⊎ (position_cell k y.given.participants ≤ j) → j ≡ position_cell k p → ⊥
         apart_from p l (inl a) e = omega arith
         apart_from p l (inr a) e = omega arith
 

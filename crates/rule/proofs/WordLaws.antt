@@ -1,7 +1,7 @@
 -- Every cell of a book is a word of 64 bits: a day of these ranges, stored, keeps it so, and every accepted call. Assumes nothing.
 use mathlib.Core.Path.{◌≡◌, subst}
 use mathlib.Core.Logic.{◌⊎◌, inl, inr}
-use Prim.Native.Nat.{ℕ, zero, suc, ◌+◌, ◌*◌, ◌≤◌, ◌<◌}
+use Prim.Native.Nat.{ℕ, zero, suc, ◌+◌, ◌≤◌, ◌<◌}
 use native.Mathlib.Decide.{dec_lt}
 use native.Mathlib.Omega.{arith}
 use mathlib.Core.Bool.{Bool, true, ◌&&◌, ◌||◌}
@@ -24,7 +24,7 @@ use Rattle.rule.specs.Day.{Day, given_of, opened, traded, noticed, Given}
 use Rattle.rule.specs.Run.{allocations, ran}
 use Rattle.rule.specs.Sound.{terms_fit, all_terms_fit, receipts_fit, marks_fit}
 use Rattle.rule.specs.Calls.{accepted, counts, open_checks, refusal, trade_checks, notice_checks}
-use Rattle.rule.specs.Layout.{pairs_at, today_at, book_length, signed, signed_rows, terms_row, terms_rows, cube_rows, tables_of, view, stored, book_fits, sound_book, open_of, trade_of, notice_of, run_of}
+use Rattle.rule.specs.Layout.{pairs_at, today_at, book_length, signed, signed_rows, terms_row, terms_rows, cube_rows, tables_of, view, stored, book_fits, sound_book, open_of, trade_of, notice_of, run_of, mark_square, most_participants}
 use Rattle.rule.specs.Claims.{Words}
 use Rattle.rule.proofs.SoundLaws.{Most, most-of, Sizes, sizes-of, SoundDay}
 use Rattle.rule.proofs.LayoutLaws.{Shaped, view-shaped, terms-at, terms-length}
@@ -179,8 +179,8 @@ module _ (y : Day) (s : Shaped y) (d : SoundDay y) where
   sizes = sizes-of n m d.sizes
 
   cube-words : (at : ℕ) (t : List (List (List ℕ))) → ((k : ℕ) → k < 7 → Shape (row t k) n n) → PairMarks n t → Every (λ w. Every Word w.1) (cube_rows at t)
-  cube-words at t c h = every-joined (λ w. Every Word w.1) 7 (λ k. rows_at (at + 144 * k) 12 (row t k)) (λ k l.
-      every-rows Word 12 (row t k) (at + 144 * k) (most-words 1 n n (row t k) (omega arith) (c k l) (h.most k l)))
+  cube-words at t c h = every-joined (λ w. Every Word w.1) 7 (λ k. rows_at (mark_square at k) most_participants (row t k)) (λ k l.
+      every-rows Word 12 (row t k) (mark_square at k) (most-words 1 n n (row t k) (omega arith) (c k l) (h.most k l)))
 
   rows_words : Every (λ w. Every Word w.1) (joined (tables_of y))
   rows_words = every-join (λ w. Every Word w.1) (tables_of y) (

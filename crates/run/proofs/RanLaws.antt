@@ -189,7 +189,7 @@ module _ (b draw : List ℕ) (s : SoundBook b) (h : Runnable (view b) draw) (c d
   shape : Shaped (ran (view b) done)
   shape = ran-shaped (view b) draw h
 
-  positions-stand : Stands e positions_at 12 7 q (signed_rows (ran (view b) done).state.owed (ran (view b) done).state.due)
+  positions-stand : Stands e positions_at most_participants 7 q (signed_rows (ran (view b) done).state.owed (ran (view b) done).state.due)
   unfolding ran view
   positions-stand k p l x =
       let o : ℕ → ℕ → ℕ = λ k p. cell y.state.owed k p - covered_from done k p in
@@ -207,7 +207,7 @@ module _ (b draw : List ℕ) (s : SoundBook b) (h : Runnable (view b) draw) (c d
       ∙ sym (ap (λ (o : List (List ℕ)). cell o r t) (get_or-table 7 (λ k. table q (λ d. table q (λ r. f k d r))) k [] l)
       ∙ ap (λ (o : List ℕ). get_or o t 0) (get_or-table q (λ d. table q (λ r. f k d r)) r [] x) ∙ get_or-table q (λ r'. f k r r') t 0 z)
 
-  tally-stand : Stands e tally_at 32 q (issues_in b) (signed_rows (ran (view b) done).state.delivered (ran (view b) done).state.received)
+  tally-stand : Stands e tally_at most_issues q (issues_in b) (signed_rows (ran (view b) done).state.delivered (ran (view b) done).state.received)
   unfolding ran view
   tally-stand p i l x =
       let out : ℕ → ℕ → ℕ = λ p i. cell y.state.delivered p i + lots_from done p i in
@@ -218,7 +218,7 @@ module _ (b draw : List ℕ) (s : SoundBook b) (h : Runnable (view b) draw) (c d
       ∙ ap₂ signed (ap (λ (r : List ℕ). get_or r i 0) (get_or-table q (λ p. table n (λ i. out p i - back p i)) p [] l) ∙ get_or-table n (λ i. out p i - back p i) i 0 x)
       (ap (λ (r : List ℕ). get_or r i 0) (get_or-table q (λ p. table n (λ i. back p i - out p i)) p [] l) ∙ get_or-table n (λ i. back p i - out p i) i 0 x))
 
-  notices-stand : Stands e notices_at 32 q (issues_in b) (ran (view b) done).state.notices
+  notices-stand : Stands e notices_at most_issues q (issues_in b) (ran (view b) done).state.notices
   unfolding ran view
   notices-stand p i l x =
       get_or-set_other d 2 (lots_cell notices_at p i) (get_or d 2 0 + 1) 0 (λ z. omega arith) ∙ v.none p i (omega (arith, same-n)) (omega (arith, same-m))

@@ -11,7 +11,7 @@ use Rattle.lists.proofs.TableLaws.{get_or-table}
 use Rattle.lists.proofs.PartLaws.{grid-get}
 use Rattle.rule.specs.Day.{baskets, term_size}
 use Rattle.rule.specs.Sound.{sound, sizes_fit, receipts_fit, at_most, pairs_fit, tradable, position_limit, notice_limit, tally_limit, trade_limit}
-use Rattle.rule.specs.Layout.{book_length, terms_at, receipts_at, pairs_at, positions_at, notices_at, today_at, tally_at, plus, minus, cube, view, book_fits, sound_book}
+use Rattle.rule.specs.Layout.{book_length, terms_at, receipts_at, pairs_at, positions_at, notices_at, today_at, tally_at, plus, minus, cube, view, book_fits, sound_book, most_issues, most_participants, position_row}
 use Rattle.ranges.specs.Ranges.{row_passes, terms_in_range}
 use Rattle.sound.specs.Sized.{Sized, book_terms, book_marks, is_within, while_runs, basket_fits, positions_fit, tally_fits, codes_fit, given_fits, state_within, state_fits}
 use Rattle.ranges.proofs.ScanLaws.{all-and}
@@ -118,7 +118,7 @@ module _ (b : List ℕ) where
   runs = get_or b 2 0
 
   abbrev positions : List (List ℕ)
-  positions = grid b positions_at 12 baskets n
+  positions = grid b positions_at most_participants baskets n
 
   abbrev owed : List (List ℕ)
   owed = map (map plus) positions
@@ -127,10 +127,10 @@ module _ (b : List ℕ) where
   due = map (map minus) positions
 
   abbrev tally : List (List ℕ)
-  tally = grid b tally_at 32 n m
+  tally = grid b tally_at most_issues n m
 
   abbrev notices : List (List ℕ)
-  notices = grid b notices_at 32 n m
+  notices = grid b notices_at most_issues n m
 
   abbrev balanced : ℕ → Bool
   balanced k = eqb (sum (row owed k)) (sum (row due k))
@@ -141,14 +141,14 @@ module _ (b : List ℕ) where
   positions-are : (limit : ℕ) → (at_most limit baskets n owed && at_most limit baskets n due && all_below baskets balanced && all_below baskets tradable_if) ≡ positions_fit b limit
   unfolding basket_fits
   positions-are limit =
-      ap (λ (t : Bool). t && all_below baskets balanced && all_below baskets tradable_if) (sides-are b positions_at 12 baskets n limit)
+      ap (λ (t : Bool). t && all_below baskets balanced && all_below baskets tradable_if) (sides-are b positions_at most_participants baskets n limit)
       ∙ ap (λ (t : Bool). t && all_below baskets tradable_if) (sym (all-and within balanced baskets))
       ∙ sym (all-and (λ k. within k && balanced k) tradable_if baskets)
       ∙ all-ext _ _ baskets (λ k l. ap₂ (λ (x y : ℕ). within k && eqb x y && (eqb (x + y) 0 || tradable k (book_terms b) (book_marks b)))
-      (side-sum b positions_at 12 baskets n plus k l) (side-sum b positions_at 12 baskets n minus k l))
+      (side-sum b positions_at most_participants baskets n plus k l) (side-sum b positions_at most_participants baskets n minus k l))
     where
       within : ℕ → Bool
-      within k = row_passes (is_within limit) b (positions_at + 12 * k) n
+      within k = row_passes (is_within limit) b (position_row k) n
 
   -- "after three runs positions and notices are zero": a limit, and the last test of the definition
   abbrev still : ℕ → ℕ → ℕ → List (List ℕ) → Bool
@@ -173,7 +173,7 @@ module _ (b : List ℕ) where
   unfolding state_fits state_within
   state-there =
       ap (λ (u : Bool). state_of u standing tallied) (sym (at-most-still (ltb runs 3) notice_limit n m notices))
-      ∙ ap₂ (state_of (at_most (while_runs runs notice_limit) n m notices)) standing-is (sides-are b tally_at 32 n m (tally_limit * runs))
+      ∙ ap₂ (state_of (at_most (while_runs runs notice_limit) n m notices)) standing-is (sides-are b tally_at most_issues n m (tally_limit * runs))
 
   sound-is : sound_book b ≡ (book_fits b && holds (sizes_fit n m ∷ given_fits b ∷ state_fits b ∷ []))
   unfolding sound_book sound view given_fits
@@ -184,12 +184,12 @@ module _ (b : List ℕ) where
 
 -- the tests of a book whose day has n participants and m issues
 module _ (b : List ℕ) (n m : ℕ) (e : n ≡ get_or b 0 0) (f : m ≡ get_or b 1 0) where
-  pub given_is : given_fits b ≡ (codes_fit b && (terms_in_range m (grid b terms_at term_size m term_size) && (at_most 1000000000000 n m (grid b receipts_at 32 n m) && pairs_fit n (cube b pairs_at n))))
+  pub given_is : given_fits b ≡ (codes_fit b && (terms_in_range m (grid b terms_at term_size m term_size) && (at_most 1000000000000 n m (grid b receipts_at most_issues n m) && pairs_fit n (cube b pairs_at n))))
   unfolding given_fits receipts_fit holds
   given_is = rw (e, f) (simp and-true)
 
   pub state_is : (runs lots yen : ℕ) → runs ≡ get_or b 2 0 → lots ≡ while_runs runs notice_limit → yen ≡ while_runs runs position_limit
-      → state_fits b ≡ (leb runs 3 && (leb (get_or b 3 0) trade_limit && (at_most lots n m (grid b notices_at 32 n m) && (positions_fit b yen && (tally_fits b (tally_limit * runs) && pairs_fit n (cube b today_at n))))))
+      → state_fits b ≡ (leb runs 3 && (leb (get_or b 3 0) trade_limit && (at_most lots n m (grid b notices_at most_issues n m) && (positions_fit b yen && (tally_fits b (tally_limit * runs) && pairs_fit n (cube b today_at n))))))
   unfolding state_fits state_within holds
   state_is runs lots yen r l y = rw (e, f, l, y, r) (simp and-true)
 
