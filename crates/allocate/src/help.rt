@@ -22,7 +22,7 @@ Each call is answered by one line, with its records under it:
     opened, traded, noted, closed
     ran MATCHES LINES          then match and line records
     refused NUMBER: WORDS      the library refuses the call, and the book stays
-    error LINE: WORDS          the line cannot be read: what is expected, and what stands there; nothing changes
+    error LINE: CALL: WORDS    the line cannot be read: what is expected, and what stands there; nothing changes
 
 close writes receipt and pair records, which are lines of tomorrow's file; show writes runs, trades, position, notified, tally and
 paired records. docs/DAYFILE.md has the words of each.

@@ -82,8 +82,8 @@ pub fn run<'a, R: Print + AllocGlobal>(
     line.at_most(ROOM, "participants")?;
     let draw = line.numbers(rt.alloc(), "participant")?;
     // the call writes into memory that it is lent, and says how much of it counts
-    let mut matches = [0u64; 539];
-    let mut lines = [0u64; 7392];
+    let mut matches = [0u64; layout::MATCH * layout::MOST_MATCHES];
+    let mut lines = [0u64; layout::LINE * layout::MOST_LINES];
     let counts = allocation::run(book, draw.as_slice(), &mut matches, &mut lines)?;
     println!(rt; "ran {} {}", counts.matches, counts.lines)?;
     let codes = codes_in_book(book);
