@@ -136,4 +136,5 @@ def main(arguments):
     sys.exit(any(verdict != "refused" for verdict, _ in wrong))
 
 
-main(sys.argv[1:])
+if __name__ == "__main__":
+    main(sys.argv[1:])
