@@ -1,5 +1,5 @@
 // The codes of a day's issues.
-ghost use Rattle.std.specs.Prelude.{◌≡◌, ◌↔◌, ◌%◌, ◌<◌, length, map, IfOk, IsTrue, OnErr};
+ghost use Rattle.std.specs.Prelude.{◌≡◌, ◌↔◌, ◌*◌, ◌%◌, ◌<◌, length, map, IfOk, IsTrue, OnErr};
 ghost use Rattle.words.specs.Lines.{IsNumber, Takes, words_left};
 ghost use Rattle.day_words.specs.Named.{IsCode, IsFirstPlace, Names, codes_in};
 ghost use Rattle.rule.specs.Day.{code_size};
