@@ -62,6 +62,8 @@ fn close_sound(book: &[u64], receipts: &mut [u64], pairs: &mut [u64]) -> Result<
     Ok(())
 }
 
+// Closes a day after three runs: writes "tomorrow's scheduled receipts (the tally where positive, else 0) and pairs (covered above 0 today)"
+// into two lists that are lent. "The book stays"; a refused one leaves the lists too.
 pub fn close(book: &[u64], receipts: &mut [u64], pairs: &mut [u64]) -> Result<(), Refusal>
     ensures { (told result, (receipts.new, pairs.new)) ≡ close_of book.now receipts.old pairs.old }
 {

@@ -1,4 +1,5 @@
 // The lines, a function each.
+ghost use Rattle.rule.specs.Layout.{book_length};
 ghost use Rattle.std.specs.Prelude.{◌≡◌, length};
 ghost use Rattle.words.specs.Lines.{words_left};
 ghost use Rattle.day_words.specs.Named.{codes_in, codes_of_book};
@@ -44,7 +45,7 @@ pub fn trade<'a>(rt: &impl Print, book: &mut [u64], mut line: Line<'a>) -> Resul
 }
 
 fn codes_in_book(book: &[u64]) -> [u8; day_words::CODES]
-    requires { length book.now ≡ 3832 }
+    requires { length book.now ≡ book_length }
     ensures { codes_in result ≡ codes_of_book book.now }
 {
     let cells = &book[layout::CODES..layout::TERMS];
@@ -57,7 +58,7 @@ pub fn notice<'a, R: Print + AllocGlobal>(
     book: &mut [u64],
     mut line: Line<'a>,
 ) -> Result<(), Failure<'a>>
-    requires { length book.old ≡ 3832 }
+    requires { length book.old ≡ book_length }
     ensures { Answers result (Notices (words_left line.entry) book.old book.new) book.old book.new }
 {
     let participant = line.number("participant")?;
@@ -76,7 +77,7 @@ pub fn run<'a, R: Print + AllocGlobal>(
     book: &mut [u64],
     line: Line<'a>,
 ) -> Result<(), Failure<'a>>
-    requires { length book.old ≡ 3832 }
+    requires { length book.old ≡ book_length }
     ensures { UnreadKeeps result book.old book.new }
 {
     line.at_most(ROOM, "participants")?;
@@ -97,7 +98,7 @@ pub fn run<'a, R: Print + AllocGlobal>(
 
 // "close": what tomorrow's opening reads.
 pub fn close<'a>(rt: &impl Print, book: &[u64], line: Line<'a>) -> Result<(), Failure<'a>>
-    requires { length book.now ≡ 3832 }
+    requires { length book.now ≡ book_length }
 {
     line.end()?;
     // the call writes into memory that it is lent
@@ -120,7 +121,7 @@ pub fn close<'a>(rt: &impl Print, book: &[u64], line: Line<'a>) -> Result<(), Fa
 
 // "what stands in the book". Places beyond the day's sizes are 0, so whole tables are gone through.
 pub fn show<'a>(rt: &impl Print, book: &[u64], line: Line<'a>) -> Result<(), Failure<'a>>
-    requires { length book.now ≡ 3832 }
+    requires { length book.now ≡ book_length }
 {
     line.end()?;
     if book[layout::PARTICIPANTS] == 0 {

@@ -1,4 +1,5 @@
 -- What the words of a day file name. Assumes nothing.
+use Rattle.rule.specs.Layout.{codes_at, terms_at}
 use Rattle.std.specs.Prelude.{◌≡◌, ◌≢◌, ◌<◌, ◌/◌, ◌⊎◌, ◌++◌, ◌∷◌, ◌%◌, ℕ, List, [], length, map, slice_range, slice_index, slice_index_or, Option, Some, None}
 use Rattle.std.specs.Int.{IsInRange}
 use Rattle.std.specs.Simd.{first_chunks}
@@ -19,7 +20,7 @@ codes_in bytes = first_chunks 12 (length bytes / 12) bytes
 
 -- the codes of a book, which has a byte to a cell, in the cells 4 to 387
 abbrev pub codes_of_book : List ℕ → List (List ℕ)
-codes_of_book book = codes_in (map (λ cell. cell % 256) (slice_range book 4 388))
+codes_of_book book = codes_in (map (λ cell. cell % 256) (slice_range book codes_at terms_at))
 
 -- the first place at which a word stands among codes, if it does
 abbrev pub IsFirstPlace : List (List ℕ) → List ℕ → Option ℕ → Type 0

@@ -1,4 +1,5 @@
 // A basket, which is written as a letter.
+ghost use Rattle.rule.specs.Day.{baskets};
 ghost use Rattle.std.specs.Prelude.{◌≡◌, ◌-◌, ◌<◌, slice_index, IfOk, OkIff};
 ghost use Rattle.words.specs.Lines.{Takes, words_left};
 ghost use Rattle.day_words.specs.Named.{IsLetter};
@@ -29,7 +30,7 @@ pub fn next_basket<'a>(line: &mut Line<'a>) -> Result<u64, Unread<'a>>
 
 // The next word, which is one of the baskets that there are.
 pub fn next_basket_of_day<'a>(line: &mut Line<'a>) -> Result<u64, Unread<'a>>
-    ensures below { IfOk result (λ b. b < 7) }
+    ensures below { IfOk result (λ b. b < baskets) }
     ensures read { IfOk result (λ b. Takes (λ word. IsLetter word × (slice_index word 0 - 65 ≡ b)) (words_left line.old) (words_left line.new)) }
 {
     let word = line.word(LETTER)?;

@@ -1,6 +1,7 @@
 // The records under an answer, a line each. The comments quote docs/DAYFILE.md.
 #![tactic(auto)]
 
+ghost use Rattle.rule.specs.Layout.{notices_at};
 ghost use Rattle.std.specs.Prelude.{◌<◌, ◌≤◌, length};
 
 use day_words::{Basket, Codes};
@@ -72,7 +73,7 @@ pub fn pairs(rt: &impl Print, kind: &str, cells: &[u64], width: usize) -> io::Re
 
 // The positions that are not 0, with their sign, by participant, then basket; in the book they stand by basket.
 pub fn positions(rt: &impl Print, book: &[u64]) -> io::Result<()>
-    requires { 2056 ≤ length book.now }
+    requires { notices_at ≤ length book.now }
 {
     for participant in 0..MOST_PARTICIPANTS {
         for basket in 0..BASKETS {

@@ -97,6 +97,8 @@ impl<'a> Notified<'a> {
     }
 }
 
+// "A notice replaces its sender's earlier one for the coming run, unnamed issues counting 0": parallel issues and lots. A refused one leaves
+// the book as it was.
 pub fn notice(
     book: &mut [u64],
     participant: u64,

@@ -108,6 +108,8 @@ impl<'a> Given<'a> {
     }
 }
 
+// Opens a day: "sizes first (participants, issues), then two parallel arrays, codes and terms .. Then come scheduled receipts .. and pair
+// marks". The book then holds that day; "a refusal returns its number alone; book and lists stay".
 pub fn open(
     participants: u64,
     issues: u64,

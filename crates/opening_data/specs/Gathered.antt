@@ -46,7 +46,7 @@ pub record IssueLine (words : List (List ℕ)) (old new : OpeningData) : Type 0 
   pub terms : List (List ℕ)
   pub parts : words ≡ code ∷ terms
   pub lengths : (length code ≡ 12) × (length terms ≡ 6)
-  pub room : old.listed < 32
+  pub room : old.listed < most_issues
   pub gathered : new ≡ record old { listed = old.listed + 1; codes = new.codes; terms = new.terms }
   pub earlier_codes : slice_range new.codes 0 (code_size * old.listed) ≡ slice_range old.codes 0 (code_size * old.listed)
   pub earlier_terms : slice_range new.terms 0 (term_size * old.listed) ≡ slice_range old.terms 0 (term_size * old.listed)

@@ -43,7 +43,7 @@ fn receipt_place(participant: usize, issues: usize, issue: usize) -> usize
 
 // Where the mark of a pair stands.
 fn pair_place(participants: usize, basket: usize, deliverer: usize, receiver: usize) -> usize
-    requires { (participants ≤ 12) × (basket < 7) × (deliverer < participants) × (receiver < participants) }
+    requires { (participants ≤ most_participants) × (basket < baskets) × (deliverer < participants) × (receiver < participants) }
     ensures place { result ≡ (basket * participants + deliverer) * participants + receiver }
     ensures within { result < square * baskets }
 {

@@ -57,6 +57,8 @@ fn run_sound(
     Ok(counts)
 }
 
+// A run, "basket by basket, A first": it "returns its counts and writes two lists" that are lent, "entries past the counts stay", and the book
+// as it is afterwards. A refused one leaves book and lists as they were.
 pub fn run(
     book: &mut [u64],
     draw: &[u64],

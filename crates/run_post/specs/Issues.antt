@@ -4,7 +4,7 @@ use Rattle.matching.specs.declared.Match.{Match}
 use Rattle.run_post.specs.declared.listing.Lists.{Lists}
 use Rattle.run_post.specs.Booked.{BookableLots, IssueMoved, LotsMoved}
 use Rattle.run_post.specs.Listed.{LineRoom, Lined, LinesRoom, Listed, LinesOnly}
-use Rattle.rule.specs.Layout.{book_length}
+use Rattle.rule.specs.Layout.{most_participants, most_issues, book_length}
 
 -- ---- lots used, in a deliverer's row
 
@@ -40,10 +40,10 @@ pub record IssueWritten (b used : List ℕ) (s : Lists) (m : Match) (i lots : �
 
 pub record IssuesWritable (b used : List ℕ) (s : Lists) (m : Match) (lots : List ℕ) : Type 0 where
   pub cells : length b ≡ book_length
-  pub deliverer : m.deliverer < 12
-  pub receiver : m.receiver < 12
+  pub deliverer : m.deliverer < most_participants
+  pub receiver : m.receiver < most_participants
   pub apart : m.deliverer ≢ m.receiver
-  pub few : length lots ≤ 32
+  pub few : length lots ≤ most_issues
   pub places : length lots ≤ length used
   pub small : (i : ℕ) → i < length lots → slice_index used i + slice_index lots i < 18446744073709551616
   pub room : LinesRoom s.lines.now s.counts.lines s.counts.matches lots

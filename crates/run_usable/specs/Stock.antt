@@ -62,7 +62,7 @@ pub record Enough (inside : Bool) (allocable used : ℕ) : Type 0 where
 -- rows of so many issues: which are of the basket, allocable quantities and used lots, no more of the basket's used than allocable, and
 -- their quotes
 pub record Usable (inside : List Bool) (allocable used : List ℕ) (quotes : List Quote) (issues : ℕ) : Type 0 where
-  pub few : issues ≤ 32
+  pub few : issues ≤ most_issues
   pub marked : issues ≤ length inside
   pub stock : issues ≤ length allocable
   pub gone : issues ≤ length used

@@ -84,6 +84,7 @@ impl Sale {
     }
 }
 
+// "A trade adds its yen to the seller's position in a basket and takes them from the buyer's". A refused one leaves the book as it was.
 pub fn trade(
     book: &mut [u64],
     seller: u64,
