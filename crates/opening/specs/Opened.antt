@@ -1,12 +1,12 @@
 -- What opening has found of its arrays, what it writes, and what it answers once all lengths are right. Assumes nothing.
-use Rattle.std.specs.Prelude.{◌≡◌, true, ℕ, ◌*◌, ◌≤◌, ◌<◌, List, length, set, drop, eqb}
+use Rattle.std.specs.Prelude.{◌≡◌, true, ℕ, ◌*◌, ◌≤◌, ◌<◌, List, length, set}
 use Rattle.lists.specs.Tests.{first}
 use Rattle.lists.specs.Tables.{table, zeros}
 use Rattle.lists.specs.Folds.{joined}
 use Rattle.lists.specs.Parts.{grid, rows_at, written}
 use Rattle.rule.specs.Day.{baskets, code_size, term_size, given_of, opened}
 use Rattle.rule.specs.Sound.{sizes_fit}
-use Rattle.rule.specs.Calls.{Reply, accepted, answer, open_checks}
+use Rattle.rule.specs.Calls.{Reply, accepted, answer, data_checks}
 use Rattle.rule.specs.Layout.{most_participants, most_issues, participants_at, issues_at, mark_square, book_length, codes_at, terms_at, receipts_at, pairs_at, stored}
 
 -- basket k's marks go to its square
@@ -35,5 +35,5 @@ pub record Lengths (n m : ℕ) (codes terms receipts pairs : List ℕ) : Type 0 
 
 unfoldable pub open_lengths : ℕ → ℕ → List ℕ → List ℕ → List ℕ → List ℕ → List ℕ → Reply × List ℕ
 open_lengths n m codes terms receipts pairs b =
-    answer (first (drop 6 (open_checks (eqb (length b) book_length) n m codes terms receipts pairs))) accepted
+    answer (first (data_checks n m (given_of n m codes terms receipts pairs))) accepted
     (stored (zeros book_length) (opened (given_of n m codes terms receipts pairs))) b

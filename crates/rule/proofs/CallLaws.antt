@@ -3,7 +3,7 @@ use mathlib.Core.Path.{◌≡◌, refl, ap}
 use Prim.Native.Nat.{ℕ, zero, suc, ◌≤◌, ◌<◌, min}
 use native.Mathlib.Omega.{arith}
 use mathlib.Core.Bool.{Bool, true, false, not, ◌&&◌}
-use mathlib.Core.List.{List, [], ◌∷◌}
+use mathlib.Core.List.{List, [], ◌∷◌, ◌++◌}
 use lib.ListN.{length, get_or}
 use lib.Dec.{ltb, leb}
 use borrow.Author.Tests.{ltb-true, ltb-false, leb-true, leb-false, eqb-true, eqb-false, not-false, eq-eqb}
@@ -12,9 +12,10 @@ use Rattle.lists.specs.Tables.{zeros, cell}
 use Rattle.lists.specs.Folds.{Every}
 use Rattle.lists.proofs.TestLaws.{and_left, and_right, all-at, both_ways}
 use Rattle.lists.proofs.TableLaws.{length-zeros}
+use Rattle.lists.proofs.FoldLaws.{every-left, every-right}
 use Rattle.rule.specs.Day.{Day, given_of, opened, traded, noticed}
 use Rattle.rule.specs.Sound.{position_limit, notice_limit}
-use Rattle.rule.specs.Calls.{Reply, accepted, counts, refused, answer, open_checks, refusal, trade_checks, distinct, notice_checks}
+use Rattle.rule.specs.Calls.{Reply, accepted, counts, refused, answer, open_checks, refusal, trade_checks, distinct, notice_checks, size_checks, data_checks, party_checks, position_checks}
 use Rattle.rule.specs.Layout.{book_length, view, stored, book_fits, sound_book, open_of, trade_of, notice_of}
 use Rattle.rule.proofs.SoundLaws.{SoundDay, facts-sound}
 use Rattle.rule.proofs.LayoutLaws.{Shaped, Signed, Signs, length-stored, view-stored, view-shaped, view-signed}
@@ -67,17 +68,21 @@ module _ (n m : ℕ) (codes terms receipts pairs b : List ℕ) where
   pub openable : first (open_checks (book_fits b) n m codes terms receipts pairs) ≡ 0 → Openable n m codes terms receipts pairs
   unfolding open_checks
   openable h =
-      let f : Every (λ c. c.1 ≡ false) (open_checks (book_fits b) n m codes terms receipts pairs) = no_row (open_checks (book_fits b) n m codes terms receipts pairs) refl h in
+      let sizes : List (ℕ × Bool) = size_checks (book_fits b) n m codes terms receipts pairs in
+      let given : List (ℕ × Bool) = data_checks n m (given_of n m codes terms receipts pairs) in
+      let none : Every (λ c. c.1 ≡ false) (sizes ++ given) = no_row (sizes ++ given) refl h in
+      let f : Every (λ c. c.1 ≡ false) sizes = every-left (λ c. c.1 ≡ false) sizes given none in
+      let g : Every (λ c. c.1 ≡ false) given = every-right (λ c. c.1 ≡ false) sizes given none in
       record {
         sizes = not-false _ f.0;
         codes_size = eqb-true _ _ (not-false _ f.1.0);
         terms_size = eqb-true _ _ (not-false _ f.1.1.0);
         receipts_size = eqb-true _ _ (not-false _ f.1.1.1.0);
         pairs_size = eqb-true _ _ (not-false _ f.1.1.1.1.0);
-        codes_right = not-false _ f.1.1.1.1.1.1.0;
-        terms_fit = not-false _ f.1.1.1.1.1.1.1.0;
-        receipts_fit = not-false _ f.1.1.1.1.1.1.1.1.0;
-        pairs_fit = not-false _ f.1.1.1.1.1.1.1.1.1.0;
+        codes_right = not-false _ g.0;
+        terms_fit = not-false _ g.1.0;
+        receipts_fit = not-false _ g.1.1.0;
+        pairs_fit = not-false _ g.1.1.1.0;
       }
 
   -- an accepted opening passed every row
@@ -110,17 +115,21 @@ module _ (b : List ℕ) (words : (j : ℕ) → get_or b j 0 < 184467440737095516
   pub tradeable : first (trade_checks (view b) seller buyer k yen) ≡ 0 → Tradeable (view b) seller buyer k yen
   unfolding trade_checks
   tradeable h =
-      let f : Every (λ c. c.1 ≡ false) (trade_checks (view b) seller buyer k yen) = no_row (trade_checks (view b) seller buyer k yen) refl h in
+      let parties : List (ℕ × Bool) = party_checks (view b) seller buyer k yen in
+      let positions : List (ℕ × Bool) = position_checks (view b) seller buyer k yen in
+      let none : Every (λ c. c.1 ≡ false) (parties ++ positions) = no_row (parties ++ positions) refl h in
+      let f : Every (λ c. c.1 ≡ false) parties = every-left (λ c. c.1 ≡ false) parties positions none in
+      let g : Every (λ c. c.1 ≡ false) positions = every-right (λ c. c.1 ≡ false) parties positions none in
       record {
         runs = leb-false _ _ f.0;
         sells = leb-false _ _ f.1.0;
         buys = leb-false _ _ f.1.1.0;
         basket = leb-false _ _ f.1.1.1.0;
         apart = eqb-false _ _ f.1.1.1.1.0;
-        tradable = not-false _ f.1.1.1.1.1.1.1.0;
-        sold = ltb-false _ _ f.1.1.1.1.1.1.1.1.0;
-        bought = ltb-false _ _ f.1.1.1.1.1.1.1.1.1.0;
-        trades = leb-false _ _ f.1.1.1.1.1.1.1.1.1.1.0;
+        tradable = not-false _ g.0;
+        sold = ltb-false _ _ g.1.0;
+        bought = ltb-false _ _ g.1.1.0;
+        trades = leb-false _ _ g.1.1.1.0;
       }
 
   module _ (s : SoundBook b) (h : Tradeable (view b) seller buyer k yen) where

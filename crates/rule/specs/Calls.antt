@@ -1,5 +1,5 @@
 -- Document 01, "Checks, by place": a check table for each call, in the paper's order, and what its answer is made of. Assumes nothing.
-use Rattle.std.specs.Prelude.{ℕ, zero, suc, ◌+◌, ◌-◌, ◌*◌, Bool, not, ◌&&◌, List, [], ◌∷◌, length, get_or, leb, ltb, eqb}
+use Rattle.std.specs.Prelude.{ℕ, zero, suc, ◌+◌, ◌-◌, ◌*◌, Bool, not, ◌&&◌, List, [], ◌∷◌, ◌++◌, length, get_or, leb, ltb, eqb}
 use Rattle.lists.specs.Tests.{pick, all_below, first}
 use Rattle.lists.specs.Tables.{cell}
 use Rattle.lists.specs.Folds.{total}
@@ -22,24 +22,32 @@ answer (suc e) reply new old = (refused (suc e), old)
 
 -- ---- opening. The book's length is its caller's to look at
 
-unfoldable pub open_checks : Bool → ℕ → ℕ → List ℕ → List ℕ → List ℕ → List ℕ → List (ℕ × Bool)
-open_checks book_fits n m codes terms receipts pairs =
-    let g : Given = given_of n m codes terms receipts pairs in
-    -- "a size, an array length or the book's length is wrong"
+-- "a size, an array length or the book's length is wrong"
+abbrev pub size_checks : Bool → ℕ → ℕ → List ℕ → List ℕ → List ℕ → List ℕ → List (ℕ × Bool)
+size_checks book_fits n m codes terms receipts pairs =
     (1, not (sizes_fit n m))
     ∷ (1, not (eqb (length codes) (code_size * m)))
     ∷ (1, not (eqb (length terms) (term_size * m)))
     ∷ (1, not (eqb (length receipts) (n * m)))
     ∷ (1, not (eqb (length pairs) (baskets * (n * n))))
     ∷ (1, not book_fits)
+    ∷ []
+
+-- the data, each over all items
+abbrev pub data_checks : ℕ → ℕ → Given → List (ℕ × Bool)
+data_checks n m g =
     -- "a code breaks the rule"
-    ∷ (2, not (codes_right g.codes))
+    (2, not (codes_right g.codes))
     -- "a term is outside its range"
     ∷ (3, not (all_terms_fit m g.terms g.marks))
     -- "a receipt or pair mark is outside its range, or a pair is of one participant"
     ∷ (4, not (receipts_fit n m g.receipts))
     ∷ (4, not (pairs_fit n g.pairs))
     ∷ []
+
+unfoldable pub open_checks : Bool → ℕ → ℕ → List ℕ → List ℕ → List ℕ → List ℕ → List (ℕ × Bool)
+open_checks book_fits n m codes terms receipts pairs =
+    size_checks book_fits n m codes terms receipts pairs ++ data_checks n m (given_of n m codes terms receipts pairs)
 
 -- ---- every other call
 
@@ -53,8 +61,9 @@ refusal is_sound checks = first ((5, not is_sound) ∷ checks)
 abbrev pub afterwards : ℕ → ℕ → ℕ → ℕ
 afterwards a b yen = a + yen - b
 
-unfoldable pub trade_checks : Day → ℕ → ℕ → ℕ → ℕ → List (ℕ × Bool)
-trade_checks y seller buyer k yen =
+-- the day, the parties and the amount
+abbrev pub party_checks : Day → ℕ → ℕ → ℕ → ℕ → List (ℕ × Bool)
+party_checks y seller buyer k yen =
     let g : Given = y.given in
     let s : State = y.state in
     -- "three runs done"
@@ -67,14 +76,24 @@ trade_checks y seller buyer k yen =
     -- "amount 0 or above 10^12 yen"
     ∷ (8, eqb yen 0)
     ∷ (8, ltb 1000000000000 yen)
+    ∷ []
+
+-- the basket, the positions and the count of trades
+abbrev pub position_checks : Day → ℕ → ℕ → ℕ → ℕ → List (ℕ × Bool)
+position_checks y seller buyer k yen =
+    let g : Given = y.given in
+    let s : State = y.state in
     -- "the basket has no unmarked issue"
-    ∷ (9, not (tradable k g.terms g.marks))
+    (9, not (tradable k g.terms g.marks))
     -- "a position would pass 10^13 yen either way"
     ∷ (10, ltb position_limit (afterwards (cell s.owed k seller) (cell s.due k seller) yen))
     ∷ (10, ltb position_limit (afterwards (cell s.due k buyer) (cell s.owed k buyer) yen))
     -- "10,000 trades accepted already"
     ∷ (11, leb trade_limit s.trades)
     ∷ []
+
+unfoldable pub trade_checks : Day → ℕ → ℕ → ℕ → ℕ → List (ℕ × Bool)
+trade_checks y seller buyer k yen = party_checks y seller buyer k yen ++ position_checks y seller buyer k yen
 
 -- ---- notice
 
