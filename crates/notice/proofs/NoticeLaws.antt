@@ -129,13 +129,14 @@ module _ (b : List ℕ) (s : SoundBook b) (issues : List ℕ) (named : all_below
       entries = record { lengths = even; named = record { below = of_day } };
     }
 
-    module _ (runs : get_or b 2 0 < 3) (few : all_below (length lots) (λ j. leb (get_or lots j 0) notice_limit) ≡ true) where
+    module _ (runs : get_or b 2 0 < 3) (once : distinct issues ≡ true) (few : all_below (length lots) (λ j. leb (get_or lots j 0) notice_limit) ≡ true) where
       noticeable : Noticeable (view b) p issues lots
       unfolding view
       noticeable = record {
         sender = sender;
         runs = runs;
         named = of_day;
+        once = once;
         few = λ j l. leb-true (get_or lots j 0) notice_limit (all-at (λ j. leb (get_or lots j 0) notice_limit) (length lots) few j (omega arith));
       }
 

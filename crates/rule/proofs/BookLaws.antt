@@ -25,7 +25,7 @@ pub record SoundBook (b : List ℕ) : Type 0 where
 
 sizes-in : (b : List ℕ) → SoundDay (view b) → Sizes (get_or b 0 0) (get_or b 1 0)
 unfolding view
-sizes-in b d = sizes-of (get_or b 0 0) (get_or b 1 0) d.sizes
+sizes-in b d = sizes-of (get_or b 0 0) (get_or b 1 0) d.given.sizes
 
 pub sound-book : (b : List ℕ) → ((j : ℕ) → get_or b j 0 < 18446744073709551616) → sound_book b ≡ true → SoundBook b
 unfolding sound_book book_fits

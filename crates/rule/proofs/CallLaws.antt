@@ -15,7 +15,7 @@ use Rattle.lists.proofs.TableLaws.{length-zeros}
 use Rattle.lists.proofs.FoldLaws.{every-left, every-right}
 use Rattle.rule.specs.Day.{Day, given_of, opened, traded, noticed}
 use Rattle.rule.specs.Sound.{position_limit, notice_limit}
-use Rattle.rule.specs.Calls.{Reply, accepted, counts, refused, answer, open_checks, refusal, trade_checks, distinct, notice_checks, size_checks, data_checks, party_checks, position_checks}
+use Rattle.rule.specs.Calls.{Reply, accepted, counts, refused, answer, open_checks, refusal, trade_checks, notice_checks, size_checks, data_checks, party_checks, position_checks}
 use Rattle.rule.specs.Layout.{book_length, view, stored, book_fits, sound_book, open_of, trade_of, notice_of}
 use Rattle.rule.proofs.SoundLaws.{SoundDay, facts-sound}
 use Rattle.rule.proofs.LayoutLaws.{Shaped, Signed, Signs, length-stored, view-stored, view-shaped, view-signed}
@@ -48,7 +48,11 @@ unfolding first
 one-row n true cs p e = absurd (omega (arith, ltb-true 0 n p))
 one-row n false cs p e = (refl, e)
 
-pub no_row : (cs : List (ℕ × Bool)) → numbered cs ≡ true → first cs ≡ 0 → Every (λ c. c.1 ≡ false) cs
+-- no row of a table has its condition
+abbrev pub None : List (ℕ × Bool) → Type 0
+None cs = Every (λ c. c.1 ≡ false) cs
+
+pub no_row : (cs : List (ℕ × Bool)) → numbered cs ≡ true → first cs ≡ 0 → None cs
 no_row [] p e = tt
 no_row (c ∷ cs) p e =
     let r : (c.1 ≡ false) × (first cs ≡ 0) = one-row c.0 c.1 cs (and_left (ltb 0 c.0) (numbered cs) p) e in
@@ -66,23 +70,27 @@ stored-sound y s g d b size =
 
 module _ (n m : ℕ) (codes terms receipts pairs b : List ℕ) where
   pub openable : first (open_checks (book_fits b) n m codes terms receipts pairs) ≡ 0 → Openable n m codes terms receipts pairs
-  unfolding open_checks
+  unfolding open_checks given_of
   openable h =
       let sizes : List (ℕ × Bool) = size_checks (book_fits b) n m codes terms receipts pairs in
       let given : List (ℕ × Bool) = data_checks n m (given_of n m codes terms receipts pairs) in
-      let none : Every (λ c. c.1 ≡ false) (sizes ++ given) = no_row (sizes ++ given) refl h in
-      let f : Every (λ c. c.1 ≡ false) sizes = every-left (λ c. c.1 ≡ false) sizes given none in
-      let g : Every (λ c. c.1 ≡ false) given = every-right (λ c. c.1 ≡ false) sizes given none in
-      record {
-        sizes = not-false _ f.0;
-        codes_size = eqb-true _ _ (not-false _ f.1.0);
-        terms_size = eqb-true _ _ (not-false _ f.1.1.0);
-        receipts_size = eqb-true _ _ (not-false _ f.1.1.1.0);
-        pairs_size = eqb-true _ _ (not-false _ f.1.1.1.1.0);
-        codes_right = not-false _ g.0;
-        terms_fit = not-false _ g.1.0;
-        receipts_fit = not-false _ g.1.1.0;
-        pairs_fit = not-false _ g.1.1.1.0;
+      let none : None (sizes ++ given) = no_row (sizes ++ given) refl h in
+      shown (every-left (λ c. c.1 ≡ false) sizes given none) (every-right (λ c. c.1 ≡ false) sizes given none)
+    where
+      shown : None (size_checks (book_fits b) n m codes terms receipts pairs) → None (data_checks n m (given_of n m codes terms receipts pairs)) → Openable n m codes terms receipts pairs
+      shown (sizes, (codes_size, (terms_size, (receipts_size, (pairs_size, _))))) (codes, (terms, (receipts, (pairs, _)))) = record {
+        sizes = not-false _ sizes;
+        codes_size = eqb-true _ _ (not-false _ codes_size);
+        terms_size = eqb-true _ _ (not-false _ terms_size);
+        receipts_size = eqb-true _ _ (not-false _ receipts_size);
+        pairs_size = eqb-true _ _ (not-false _ pairs_size);
+        given = record {
+          sizes = not-false _ sizes;
+          codes = not-false _ codes;
+          terms = not-false _ terms;
+          receipts = not-false _ receipts;
+          pairs = not-false _ pairs;
+        };
       }
 
   -- an accepted opening passed every row
@@ -117,19 +125,20 @@ module _ (b : List ℕ) (words : (j : ℕ) → get_or b j 0 < 184467440737095516
   tradeable h =
       let parties : List (ℕ × Bool) = party_checks (view b) seller buyer k yen in
       let positions : List (ℕ × Bool) = position_checks (view b) seller buyer k yen in
-      let none : Every (λ c. c.1 ≡ false) (parties ++ positions) = no_row (parties ++ positions) refl h in
-      let f : Every (λ c. c.1 ≡ false) parties = every-left (λ c. c.1 ≡ false) parties positions none in
-      let g : Every (λ c. c.1 ≡ false) positions = every-right (λ c. c.1 ≡ false) parties positions none in
-      record {
-        runs = leb-false _ _ f.0;
-        sells = leb-false _ _ f.1.0;
-        buys = leb-false _ _ f.1.1.0;
-        basket = leb-false _ _ f.1.1.1.0;
-        apart = eqb-false _ _ f.1.1.1.1.0;
-        tradable = not-false _ g.0;
-        sold = ltb-false _ _ g.1.0;
-        bought = ltb-false _ _ g.1.1.0;
-        trades = leb-false _ _ g.1.1.1.0;
+      let none : None (parties ++ positions) = no_row (parties ++ positions) refl h in
+      shown (every-left (λ c. c.1 ≡ false) parties positions none) (every-right (λ c. c.1 ≡ false) parties positions none)
+    where
+      shown : None (party_checks (view b) seller buyer k yen) → None (position_checks (view b) seller buyer k yen) → Tradeable (view b) seller buyer k yen
+      shown (runs, (sells, (buys, (basket, (apart, _))))) (tradable, (sold, (bought, (trades, _)))) = record {
+        runs = leb-false _ _ runs;
+        sells = leb-false _ _ sells;
+        buys = leb-false _ _ buys;
+        basket = leb-false _ _ basket;
+        apart = eqb-false _ _ apart;
+        tradable = not-false _ tradable;
+        sold = ltb-false _ _ sold;
+        bought = ltb-false _ _ bought;
+        trades = leb-false _ _ trades;
       }
 
   module _ (s : SoundBook b) (h : Tradeable (view b) seller buyer k yen) where
@@ -146,9 +155,9 @@ module _ (b : List ℕ) (words : (j : ℕ) → get_or b j 0 < 184467440737095516
           positions = λ j p l m.
               which y shape seller buyer k yen h
               (λ j p. j < 7 → p < y.given.participants → Signs (cell (owed2 y shape seller buyer k yen h) j p) (cell (due2 y shape seller buyer k yen h) j p))
-              (λ a c. signs (owed-seller y shape seller buyer k yen h) (due-seller y shape seller buyer k yen h) (omega arith) h.sold (omega (arith, d.due k seller a c)))
-              (λ a c. signs (owed-buyer y shape seller buyer k yen h) (due-buyer y shape seller buyer k yen h) (omega arith) (omega (arith, d.owed k buyer a c)) h.bought)
-              (λ j p ne a c. signs (owed-other y shape seller buyer k yen h j p ne) (due-other y shape seller buyer k yen h j p ne) (g.positions j p a c).one (d.owed j p a c) (d.due j p a c))
+              (λ a c. signs (owed-seller y shape seller buyer k yen h) (due-seller y shape seller buyer k yen h) (omega arith) h.sold (omega (arith, d.positions.due k seller a c)))
+              (λ a c. signs (owed-buyer y shape seller buyer k yen h) (due-buyer y shape seller buyer k yen h) (omega arith) (omega (arith, d.positions.owed k buyer a c)) h.bought)
+              (λ j p ne a c. signs (owed-other y shape seller buyer k yen h j p ne) (due-other y shape seller buyer k yen h j p ne) (g.positions j p a c).one (d.positions.owed j p a c) (d.positions.due j p a c))
               j p l m;
           tally = g.tally;
         }
@@ -180,21 +189,18 @@ module _ (b : List ℕ) (words : (j : ℕ) → get_or b j 0 < 184467440737095516
   pub noticeable : first (notice_checks (view b) p issues lots) ≡ 0 → Noticeable (view b) p issues lots
   unfolding notice_checks
   noticeable h =
-      let f : Every (λ c. c.1 ≡ false) (notice_checks (view b) p issues lots) = no_row (notice_checks (view b) p issues lots) refl h in
-      let same : length issues ≡ length lots = eqb-true _ _ (not-false _ f.1.1.1.0) in
-      record {
-        runs = leb-false _ _ f.0;
-        sender = leb-false _ _ f.1.0;
-        named = λ j l. ltb-true _ _ (all-at (λ j. ltb (get_or issues j 0) (view b).given.issues) (length issues) (not-false _ f.1.1.1.1.0) j l);
-        few = λ j l. leb-true _ _ (all-at (λ j. leb (get_or lots j 0) notice_limit) (length lots) (not-false _ f.1.1.1.1.1.1.0) j (omega arith));
-      }
-
-  -- no issue is named twice
-  pub notice-once : (notice_of b p issues lots).0 ≡ accepted → distinct issues ≡ true
-  unfolding notice_of notice_checks
-  notice-once a =
-      let w : SoundBook b × (first (notice_checks (view b) p issues lots) ≡ 0) = was-sound b words (notice_checks (view b) p issues lots) (passed _ (stored b (noticed (view b) p issues lots)) b a) in
-      not-false _ (no_row (notice_checks (view b) p issues lots) refl w.1).1.1.1.1.1.0
+      shown (no_row (notice_checks (view b) p issues lots) refl h)
+    where
+      shown : None (notice_checks (view b) p issues lots) → Noticeable (view b) p issues lots
+      shown (runs, (sender, (_, (sizes, (named, (once, (few, _))))))) =
+          let same : length issues ≡ length lots = eqb-true _ _ (not-false _ sizes) in
+          record {
+            runs = leb-false _ _ runs;
+            sender = leb-false _ _ sender;
+            named = λ j l. ltb-true _ _ (all-at (λ j. ltb (get_or issues j 0) (view b).given.issues) (length issues) (not-false _ named) j l);
+            once = not-false _ once;
+            few = λ j l. leb-true _ _ (all-at (λ j. leb (get_or lots j 0) notice_limit) (length lots) (not-false _ few) j (omega arith));
+          }
 
   -- an accepted notice had a sound book, and passed every row
   pub notice-passed : (notice_of b p issues lots).0 ≡ accepted → SoundBook b × Noticeable (view b) p issues lots

@@ -39,7 +39,7 @@ accepts e new old h = rw h
 
 open-accepts : (n m : ℕ) (codes terms receipts pairs b : List ℕ) → Openable n m codes terms receipts pairs → book_fits b ≡ true
     → (open_of n m codes terms receipts pairs b).0 ≡ accepted
-unfolding open_of open_checks
+unfolding open_of open_checks given_of
 open-accepts n m codes terms receipts pairs b h fits =
     ap (λ (r : Reply × List ℕ). r.0) (accepts _ (stored (zeros book_length) (opened (given_of n m codes terms receipts pairs))) b
     (no-first (open_checks (book_fits b) n m codes terms receipts pairs) (
@@ -52,7 +52,7 @@ open-accepts n m codes terms receipts pairs b h fits =
             granted _ (eq-eqb _ _ h.receipts_size),
             (
               granted _ (eq-eqb _ _ h.pairs_size),
-              (granted _ fits, (granted _ h.codes_right, (granted _ h.terms_fit, (granted _ h.receipts_fit, (granted _ h.pairs_fit, tt))))),
+              (granted _ fits, (granted _ h.given.codes, (granted _ h.given.terms, (granted _ h.given.receipts, (granted _ h.given.pairs, tt))))),
             ),
           ),
         ),
@@ -143,7 +143,7 @@ module _ (b : List ℕ) (s : SoundBook b) (sound : sound_book b ≡ true) (three
   receipts-right : receipts_fit n m (view b).state.delivered ≡ true
   unfolding receipts_fit
   receipts-right = of-most 1000000000000 n m (view b).state.delivered (λ p i l k.
-      omega (arith, s.day.delivered p i l k, ap (λ (r : ℕ). tally_limit * r) three))
+      omega (arith, s.day.tallies.delivered p i l k, ap (λ (r : ℕ). tally_limit * r) three))
 
   -- what tomorrow's opening has shown with no receipts and pairs, it shows with these
   openable-next : (codes terms : List ℕ) → Openable n m codes terms (zeros (n * m)) (zeros (baskets * (n * n)))
@@ -155,10 +155,13 @@ module _ (b : List ℕ) (s : SoundBook b) (sound : sound_book b ≡ true) (three
     terms_size = h.terms_size;
     receipts_size = joined_length m (view b).state.delivered (shape-rows (view b).state.delivered n m shape.delivered) ∙ ap (λ (k : ℕ). m * k) shape.delivered.rows ∙ mul_comm m n;
     pairs_size = joined_length (n * n) flat-today (shape-rows flat-today 7 (n * n) today-shape) ∙ ap (λ (k : ℕ). n * n * k) today-shape.rows ∙ mul_comm (n * n) 7;
-    codes_right = h.codes_right;
-    terms_fit = h.terms_fit;
-    receipts_fit = ap (receipts_fit n m) (grid-table (view b).state.delivered n m shape.delivered) ∙ receipts-right;
-    pairs_fit = ap (pairs_fit n) (cube-table (view b).state.today n shape.today_baskets shape.today) ∙ s.day.today;
+    given = record {
+      sizes = h.sizes;
+      codes = h.given.codes;
+      terms = h.given.terms;
+      receipts = ap (receipts_fit n m) (grid-table (view b).state.delivered n m shape.delivered) ∙ receipts-right;
+      pairs = ap (pairs_fit n) (cube-table (view b).state.today n shape.today_baskets shape.today) ∙ s.day.today;
+    };
   }
     where
       flat-today : List (List ℕ)

@@ -19,10 +19,11 @@ use Rattle.rule.specs.Layout.{plus, minus, signed, view, sound_book, open_of, tr
 use Rattle.rule.specs.Claims.{Words, Call, trade, notice, run, close, Event, History, next, history, matches_of, lines_of, sold_in, bought_in, delivered_in, received_in, lots_by, forced_by, is_run, runs_in, notified_after, notified, allocable_then, standing, EventHolds, HistoryHolds, StaysSound}
 use Rattle.rule.proofs.SplitLaws.{Within, last-split}
 use Rattle.rule.proofs.LayoutLaws.{signed-split}
+use Rattle.rule.proofs.SoundLaws.{Zeroed}
 use Rattle.rule.proofs.BookLaws.{SoundBook, sound-book, view-owed, view-due, row-owed, row-due}
 use Rattle.rule.proofs.ClaimLaws.{quantity-is}
 use Rattle.rule.proofs.OpenLaws.{zero-cell}
-use Rattle.rule.proofs.CallLaws.{opening-sound, trade-passed, trade-sound, notice-passed, notice-once, notice-sound}
+use Rattle.rule.proofs.CallLaws.{opening-sound, trade-passed, trade-sound, notice-passed, notice-sound}
 use Rattle.rule.proofs.TradeLaws.{Tradeable}
 use Rattle.rule.proofs.NoticeLaws.{Noticeable}
 use Rattle.rule.proofs.HandedLaws.{matches-are, lines_are}
@@ -132,7 +133,7 @@ module _ (b : List ℕ) (words : Words b) (sound : sound_book b ≡ true) where
       (λ a.
       let h : SoundBook b × Noticeable (view b) p issues lots = notice-passed b words p issues lots a in
       let t : (view r.1 ≡ noticed (view b) p issues lots) × (sound_book r.1 ≡ true) = notice-sound b words p issues lots a in
-      noticed-step b r.1 h.0 p issues lots h.1 (notice-once b words p issues lots a) t.0 (notice-words b words p issues lots a) t.1)
+      noticed-step b r.1 h.0 p issues lots h.1 h.1.once t.0 (notice-words b words p issues lots a) t.1)
       (refused-step b words sound c)
 
   run_step : (draw matches lines : List ℕ) → let r : Reply × (List ℕ × List ℕ × List ℕ) = run_of b draw matches lines in
@@ -213,16 +214,16 @@ module _ (g : Given) (h : History) (r : Kept g h) where
   zero-after : 3 ≤ runs_in h.events → (k p : ℕ) → k < 7 → p < g.participants → standing h.book k p ≡ 0
   unfolding view
   zero-after three k p l q =
-      let z : _ = book-sound.day.done (omega (arith, r.runs, book-sound.day.runs)) in
-      let a : plus (standing h.book k p) ≡ 0 = omega (arith, z.0 k p l (omega (arith, size_is)), standing-owed k p l q) in
-      let c : minus (standing h.book k p) ≡ 0 = omega (arith, z.1 k p l (omega (arith, size_is)), standing-due k p l q) in
+      let z : Zeroed _ _ _ _ _ = book-sound.day.done (omega (arith, r.runs, book-sound.day.limits.runs)) in
+      let a : plus (standing h.book k p) ≡ 0 = omega (arith, z.owed k p l (omega (arith, size_is)), standing-owed k p l q) in
+      let c : minus (standing h.book k p) ≡ 0 = omega (arith, z.due k p l (omega (arith, size_is)), standing-due k p l q) in
       sym (signed-split (standing h.book k p) (r.words (position_cell k p))) ∙ ap₂ signed a c
 
   even-places : (k : ℕ) → k < 7
       → sum (table g.participants (λ p. plus (standing h.book k p))) ≡ sum (table g.participants (λ p. minus (standing h.book k p)))
   even-places k l =
       ap (λ (n : ℕ). sum (table n (λ p. plus (standing h.book k p)))) (sym size_is) ∙ ap sum (sym (row-owed h.book book-sound.readable k l))
-      ∙ book-sound.day.even k l
+      ∙ book-sound.day.positions.even k l
       ∙ ap sum (row-due h.book book-sound.readable k l) ∙ ap (λ (n : ℕ). sum (table n (λ p. minus (standing h.book k p)))) size_is
 
   pub holds_kept : HistoryHolds g h
@@ -237,5 +238,5 @@ module _ (g : Given) (h : History) (r : Kept g h) where
   sound-kept = record {
     sound = r.sound;
     never_unsound = λ before after e q. (r.each before after e q).never;
-    runs = (sym r.runs, omega (arith, r.runs, book-sound.day.runs));
+    runs = (sym r.runs, omega (arith, r.runs, book-sound.day.limits.runs));
   }

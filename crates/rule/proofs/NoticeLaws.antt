@@ -4,6 +4,7 @@ use mathlib.Core.Logic.{◌⊎◌, inl, inr, ◌≢◌}
 use Prim.Native.Nat.{ℕ, ◌+◌, ◌≤◌, ◌<◌}
 use native.Mathlib.Decide.{dec_lt, ℕ_discrete}
 use native.Mathlib.Omega.{arith}
+use mathlib.Core.Bool.{true}
 use mathlib.Core.List.{List, []}
 use lib.ListN.{length, get_or, set, length-set}
 use lib.Seq.{get_or-set_same, get_or-set_other}
@@ -15,6 +16,7 @@ use Rattle.lists.proofs.TableLaws.{length-table, get_or-zeros, set-kept}
 use Rattle.lists.proofs.PartLaws.{Outside, Shape, Stands, length_over, over-in, over-out}
 use Rattle.rule.specs.Day.{Day, notice_row, noticed}
 use Rattle.rule.specs.Layout.{notices_at, today_at, view, tables_of, stored, lots_cell, lots_row, most_issues}
+use Rattle.rule.specs.Calls.{distinct}
 use Rattle.rule.specs.Sound.{notice_limit}
 use Rattle.rule.proofs.SoundLaws.{Most, SoundDay}
 use Rattle.rule.proofs.LayoutLaws.{Shaped, Holds, Readable, given-kept, positions-kept, today-kept, tally-kept, outside-notice, view-shaped, view-holds, stored_is}
@@ -42,6 +44,7 @@ pub record Noticeable (y : Day) (p : ℕ) (issues lots : List ℕ) : Type 0 wher
   pub sender : p < y.given.participants
   pub runs : y.state.runs < 3
   pub named : (j : ℕ) → j < length issues → get_or issues j 0 < y.given.issues
+  pub once : distinct issues ≡ true
   pub few : (j : ℕ) → j < length issues → get_or lots j 0 ≤ notice_limit
 
 module _ (y : Day) (s : Shaped y) (p : ℕ) (issues lots : List ℕ) (h : Noticeable y p issues lots) where
@@ -95,25 +98,15 @@ module _ (y : Day) (s : Shaped y) (p : ℕ) (issues lots : List ℕ) (h : Notice
     where
       go : Dec (q ≡ p) → cell rows q i ≤ notice_limit
       go (yes e) = rw (e, row-sender) (notice_row-most m issues lots h.few i)
-      go (no ne) = rw (row_other q ne) (z.notices q i l k)
+      go (no ne) = rw (row_other q ne) (z.limits.notices q i l k)
 
   pub noticed-sound : SoundDay y → SoundDay (noticed y p issues lots)
   unfolding noticed
   noticed-sound z = record {
-    runs = z.runs;
-    sizes = z.sizes;
-    codes = z.codes;
-    terms = z.terms;
-    receipts = z.receipts;
-    notices = rows-most z;
-    trades = z.trades;
-    owed = z.owed;
-    due = z.due;
-    even = z.even;
-    tradable = z.tradable;
-    delivered = z.delivered;
-    received = z.received;
-    pairs = z.pairs;
+    limits = record { runs = z.limits.runs; notices = rows-most z; trades = z.limits.trades };
+    given = z.given;
+    positions = z.positions;
+    tallies = z.tallies;
     today = z.today;
     done = λ e. absurd (omega (arith, h.runs));
   }

@@ -18,11 +18,10 @@ use Rattle.lists.proofs.TestLaws.{all_of, go}
 use Rattle.lists.proofs.FoldLaws.{sum_zeros, every_map, every-join, every-parts}
 use Rattle.lists.proofs.TableLaws.{length-table, length-zeros, get_or-table, get_or-zeros}
 use Rattle.lists.proofs.PartLaws.{Inside, Outside, Shape, Stands, grid-shape, length-written, written_out, written-reads, rising-past}
-use Rattle.rule.specs.Isin.{codes_right}
 use Rattle.rule.specs.Day.{Given, baskets, mark, terms_of, given_of, opened, marks_of, code_size, term_size}
 use Rattle.rule.specs.Layout.{codes_at, positions_at, notices_at, today_at, tally_at, book_length, signed, signed_rows, given_tables, tables_of, stored, mark_square, most_issues, most_participants}
-use Rattle.rule.specs.Sound.{sizes_fit, all_terms_fit, at_most, receipts_fit, pairs_fit, position_limit, notice_limit, tally_limit}
-use Rattle.rule.proofs.SoundLaws.{Most, of-most, Sizes, sizes-of, SoundDay}
+use Rattle.rule.specs.Sound.{sizes_fit, at_most, pairs_fit, position_limit, notice_limit, tally_limit}
+use Rattle.rule.proofs.SoundLaws.{Most, of-most, Sizes, sizes-of, SoundGiven, SoundDay}
 use Rattle.rule.proofs.LayoutLaws.{Shaped, Signed, Signs, Holds, signed-cell, given_inside, given-rise, reads-given, outside-sizes, stored_is}
 
 -- what an accepted opening has shown of its data
@@ -32,10 +31,7 @@ pub record Openable (n m : ℕ) (codes terms receipts pairs : List ℕ) : Type 0
   pub terms_size : length terms ≡ term_size * m
   pub receipts_size : length receipts ≡ n * m
   pub pairs_size : length pairs ≡ 7 * (n * n)
-  pub codes_right : codes_right (given_of n m codes terms receipts pairs).codes ≡ true
-  pub terms_fit : all_terms_fit m (given_of n m codes terms receipts pairs).terms (given_of n m codes terms receipts pairs).marks ≡ true
-  pub receipts_fit : receipts_fit n m (given_of n m codes terms receipts pairs).receipts ≡ true
-  pub pairs_fit : pairs_fit n (given_of n m codes terms receipts pairs).pairs ≡ true
+  pub given : SoundGiven (given_of n m codes terms receipts pairs)
 
 -- ---- tables of zeros
 
@@ -104,20 +100,15 @@ module _ (n m : ℕ) (codes terms receipts pairs : List ℕ) (h : Openable n m c
   pub opened-sound : SoundDay (opened g)
   unfolding opened given_of
   opened-sound = record {
-    runs = omega arith;
-    sizes = h.sizes;
-    codes = h.codes_right;
-    terms = h.terms_fit;
-    receipts = h.receipts_fit;
-    notices = zero-most notice_limit n m;
-    trades = omega arith;
-    owed = zero-most position_limit 7 n;
-    due = zero-most position_limit 7 n;
-    even = λ k l. zero-sum 7 n k l ∙ sym (zero-sum 7 n k l);
-    tradable = λ k l. inl (omega (arith, zero-sum 7 n k l));
-    delivered = zero-most (tally_limit * 0) n m;
-    received = zero-most (tally_limit * 0) n m;
-    pairs = h.pairs_fit;
+    limits = record { runs = omega arith; notices = zero-most notice_limit n m; trades = omega arith };
+    given = h.given;
+    positions = record {
+      owed = zero-most position_limit baskets n;
+      due = zero-most position_limit baskets n;
+      even = λ k l. zero-sum baskets n k l ∙ sym (zero-sum baskets n k l);
+      tradable = λ k l. inl (omega (arith, zero-sum baskets n k l));
+    };
+    tallies = record { delivered = zero-most (tally_limit * 0) n m; received = zero-most (tally_limit * 0) n m };
     today = zero-marks n;
     done = λ e. absurd (omega arith);
   }

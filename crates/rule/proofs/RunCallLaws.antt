@@ -6,7 +6,7 @@ use mathlib.Core.List.{List}
 use lib.ListN.{length, get_or}
 use borrow.Author.Tests.{leb-false, ltb-false, not-false}
 use Rattle.lists.specs.Tests.{first}
-use Rattle.lists.specs.Folds.{joined, Every}
+use Rattle.lists.specs.Folds.{joined}
 use Rattle.lists.specs.Parts.{over}
 use Rattle.lists.proofs.TestLaws.{both_ways}
 use Rattle.rule.specs.Day.{Day}
@@ -17,7 +17,7 @@ use Rattle.rule.specs.Layout.{view, stored, sound_book, run_of}
 use Rattle.rule.proofs.LayoutLaws.{view-shaped, view-signed}
 use Rattle.rule.proofs.BookLaws.{SoundBook}
 use Rattle.rule.proofs.DrawLaws.{draw-right}
-use Rattle.rule.proofs.CallLaws.{is_refused, no_row, stored-sound, was-sound}
+use Rattle.rule.proofs.CallLaws.{is_refused, None, no_row, stored-sound, was-sound}
 use Rattle.rule.proofs.RunLaws.{Runnable}
 use Rattle.rule.proofs.RunSound.{ran-shaped, ran-signed, ran-sound}
 
@@ -69,17 +69,19 @@ module _ (b : List ℕ) (words : (j : ℕ) → get_or b j 0 < 184467440737095516
   passed-checks : SoundBook b → first (run_checks (view b) draw (length matches) (length lines)) ≡ 0 → Passed
   unfolding run_checks
   passed-checks s h =
-      let f : Every (λ c. c.1 ≡ false) (run_checks (view b) draw (length matches) (length lines)) = no_row (run_checks (view b) draw (length matches) (length lines)) refl h in
-      record {
+      shown (no_row (run_checks (view b) draw (length matches) (length lines)) refl h)
+    where
+      shown : None (run_checks (view b) draw (length matches) (length lines)) → Passed
+      shown (runs, (draw_right, (matches_long, (lines_long, _)))) = record {
         runnable = record {
           shaped = view-shaped b s.readable;
           signed = view-signed b s.readable;
           day = s.day;
-          runs = leb-false _ _ f.0;
-          once = draw-right _ draw (not-false _ f.1.0);
+          runs = leb-false _ _ runs;
+          once = draw-right _ draw (not-false _ draw_right);
         };
-        match_places = ltb-false _ _ f.1.1.0;
-        line_places = ltb-false _ _ f.1.1.1.0;
+        match_places = ltb-false _ _ matches_long;
+        line_places = ltb-false _ _ lines_long;
       }
 
   -- an accepted run leaves a sound book, with the day after the run in it

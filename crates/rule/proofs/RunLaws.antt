@@ -180,10 +180,10 @@ module _ (y : Day) (draw : List ℕ) (h : Runnable y draw) where
   ts = y.given.terms
 
   abbrev sizes : Sizes n y.given.issues
-  sizes = sizes-of n y.given.issues h.day.sizes
+  sizes = sizes-of n y.given.issues h.day.given.sizes
 
   priced : Priced ts
-  priced i l = omega (arith, prices y.given.issues ts y.given.marks h.day.terms h.shaped.terms i l)
+  priced i l = omega (arith, prices y.given.issues ts y.given.marks h.day.given.terms h.shaped.terms i l)
 
   length-usable : (k : ℕ) (before : List (List ℕ)) (done : List Allocation) (d : ℕ) → length (usable y k before done d) ≡ length ts
   unfolding usable
@@ -364,13 +364,13 @@ module _ (y : Day) (draw : List ℕ) (h : Runnable y draw) where
   unfolding out_of basket_plan
   matched-from k p l =
       amounts (λ m. m.deliverer) k p l
-      ∙ all-owed y.state.runs (row y.given.pairs k) draw (o k) (d k) (same k l) (h.day.even k l) (named k l) p
+      ∙ all-owed y.state.runs (row y.given.pairs k) draw (o k) (d k) (same k l) (h.day.positions.even k l) (named k l) p
 
   pub matched_to : (k p : ℕ) → k < 7 → total (λ a. pick (eqb a.basket k && eqb a.match.receiver p) a.match.amount 0) (allocations y draw) ≡ cell y.state.due k p
   unfolding in_to basket_plan
   matched_to k p l =
       amounts (λ m. m.receiver) k p l
-      ∙ all-due y.state.runs (row y.given.pairs k) draw (o k) (d k) (same k l) (h.day.even k l) (named k l) p
+      ∙ all-due y.state.runs (row y.given.pairs k) draw (o k) (d k) (same k l) (h.day.positions.even k l) (named k l) p
 
   -- the third run covers every position
   pub third-from : y.state.runs ≡ 2 → (k p : ℕ) → k < 7 → covered_from (allocations y draw) k p ≡ cell y.state.owed k p

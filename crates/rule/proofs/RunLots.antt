@@ -126,7 +126,7 @@ module _ (y : Day) (draw : List ℕ) (h : Runnable y draw) where
     where
       go : Dec (0 < a.filled.covered) → least_worth * all_lots a.filled i ≤ a.filled.covered + least_worth
       go (yes q) =
-          lots-paid y.given.terms a.filled (r.issues ∙ sym h.shaped.terms) (prices y.given.issues y.given.terms y.given.marks h.day.terms h.shaped.terms)
+          lots-paid y.given.terms a.filled (r.issues ∙ sym h.shaped.terms) (prices y.given.issues y.given.terms y.given.marks h.day.given.terms h.shaped.terms)
           (r.fewest q) i (omega (arith, h.shaped.terms))
       go (no q) = omega (arith, r.none (omega arith) i)
 
@@ -163,7 +163,7 @@ module _ (y : Day) (draw : List ℕ) (h : Runnable y draw) where
       omega (
         arith,
         out-of-owed y.state.runs (row y.given.pairs k) draw (row y.state.owed k) (row y.state.due k) p,
-        h.day.owed k p j q,
+        h.day.positions.owed k p j q,
       ))
 
   pub lots-to-most : (p i : ℕ) → p < n → i < y.given.issues → lots_to (allocations y draw) p i ≤ tally_limit
@@ -172,5 +172,5 @@ module _ (y : Day) (draw : List ℕ) (h : Runnable y draw) where
       omega (
         arith,
         in-to-due y.state.runs (row y.given.pairs k) draw (row y.state.owed k) (row y.state.due k) p,
-        h.day.due k p j q,
+        h.day.positions.due k p j q,
       ))

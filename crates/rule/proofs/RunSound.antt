@@ -16,7 +16,7 @@ use Rattle.lists.proofs.TestLaws.{pick_no, pick-elim, and_left, and_right, all-a
 use Rattle.lists.proofs.FoldLaws.{total-zero, every_map, every-from}
 use Rattle.lists.proofs.TableLaws.{length-table, get_or-table}
 use Rattle.lists.proofs.PartLaws.{Shape}
-use Rattle.rule.specs.Day.{Day, mark}
+use Rattle.rule.specs.Day.{baskets, Day, mark}
 use Rattle.rule.specs.Run.{Allocation, allocations, covered_from, covered_to, lots_from, lots_to, covered_pair, ran}
 use Rattle.rule.specs.Sound.{at_most, pairs_fit, tradable, position_limit, tally_limit}
 use Rattle.rule.proofs.SoundLaws.{Most, most-of, of-most, SoundDay}
@@ -116,10 +116,10 @@ module _ (y : Day) (draw : List ℕ) (h : Runnable y draw) where
 
   -- what a tally may be after the run
   out-most : (p i : ℕ) → p < n → i < m → out p i ≤ tally_limit * (y.state.runs + 1)
-  out-most p i l k = omega (arith, h.day.delivered p i l k, lots-from-most y draw h p i l k)
+  out-most p i l k = omega (arith, h.day.tallies.delivered p i l k, lots-from-most y draw h p i l k)
 
   back-most : (p i : ℕ) → p < n → i < m → back p i ≤ tally_limit * (y.state.runs + 1)
-  back-most p i l k = omega (arith, h.day.received p i l k, lots-to-most y draw h p i l k)
+  back-most p i l k = omega (arith, h.day.tallies.received p i l k, lots-to-most y draw h p i l k)
 
   pub ran-signed : Signed (ran y (allocations y draw)) ran-shaped
   unfolding ran
@@ -128,8 +128,8 @@ module _ (y : Day) (draw : List ℕ) (h : Runnable y draw) where
         rw (rows-cell 7 n owed_left k p l q, rows-cell 7 n due_left k p l q)
         (record {
           one = omega (arith, (h.signed.positions k p l q).one);
-          out = omega (arith, h.day.owed k p l q);
-          back = omega (arith, h.day.due k p l q);
+          out = omega (arith, h.day.positions.owed k p l q);
+          back = omega (arith, h.day.positions.due k p l q);
         });
     tally = λ p i l q.
         rw (rows-cell n m (λ p i. out p i - back p i) p i l q, rows-cell n m (λ p i. back p i - out p i) p i l q)
@@ -239,27 +239,26 @@ module _ (y : Day) (draw : List ℕ) (h : Runnable y draw) where
   pub ran-sound : SoundDay (ran y (allocations y draw))
   unfolding ran
   ran-sound = record {
-    runs = omega (arith, h.runs);
-    sizes = h.day.sizes;
-    codes = h.day.codes;
-    terms = h.day.terms;
-    receipts = h.day.receipts;
-    notices = λ p i l k. omega (arith, zero-cell n m p i l);
-    trades = h.day.trades;
-    owed = rows-most position_limit 7 n owed_left (λ k p l q. omega (arith, h.day.owed k p l q));
-    due = rows-most position_limit 7 n due_left (λ k p l q. omega (arith, h.day.due k p l q));
-    even = λ k l. omega (arith, owed_sum k l, due_sum k l, covered-even y draw h k, h.day.even k l);
-    tradable = λ k l. free k l (h.day.tradable k l);
-    delivered = rows-most (tally_limit * (y.state.runs + 1)) n m (λ p i. out p i - back p i) (λ p i l k. omega (arith, out-most p i l k));
-    received = rows-most (tally_limit * (y.state.runs + 1)) n m (λ p i. back p i - out p i) (λ p i l k. omega (arith, back-most p i l k));
-    pairs = h.day.pairs;
+    limits = record { runs = omega (arith, h.runs); notices = λ p i l k. omega (arith, zero-cell n m p i l); trades = h.day.limits.trades };
+    given = h.day.given;
+    positions = record {
+      owed = rows-most position_limit 7 n owed_left (λ k p l q. omega (arith, h.day.positions.owed k p l q));
+      due = rows-most position_limit 7 n due_left (λ k p l q. omega (arith, h.day.positions.due k p l q));
+      even = λ k l. omega (arith, owed_sum k l, due_sum k l, covered-even y draw h k, h.day.positions.even k l);
+      tradable = λ k l. free k l (h.day.positions.tradable k l);
+    };
+    tallies = record {
+      delivered = rows-most (tally_limit * (y.state.runs + 1)) n m (λ p i. out p i - back p i) (λ p i l k. omega (arith, out-most p i l k));
+      received = rows-most (tally_limit * (y.state.runs + 1)) n m (λ p i. back p i - out p i) (λ p i l k. omega (arith, back-most p i l k));
+    };
     today = of-pair-marks n today today-marks;
     done = λ e.
-        let two : y.state.runs ≡ 2 = omega arith in (
-          rows-most 0 7 n owed_left (λ k p l q. omega (arith, owed-third two k p l)),
-          rows-most 0 7 n due_left (λ k p l q. omega (arith, due-third two k p l)),
-          λ p i l k. omega (arith, zero-cell n m p i l),
-        );
+        let two : y.state.runs ≡ 2 = omega arith in
+        record {
+          owed = rows-most 0 baskets n owed_left (λ k p l q. omega (arith, owed-third two k p l));
+          due = rows-most 0 baskets n due_left (λ k p l q. omega (arith, due-third two k p l));
+          notices = λ p i l k. omega (arith, zero-cell n m p i l);
+        };
   }
     where
       free : (k : ℕ) → k < 7 → (sum (row y.state.owed k) + sum (row y.state.due k) ≡ 0) ⊎ (tradable k y.given.terms y.given.marks ≡ true)

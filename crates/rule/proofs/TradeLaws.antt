@@ -178,32 +178,27 @@ module _ (y : Day) (s : Shaped y) (seller buyer k yen : ℕ) (h : Tradeable y se
   pub traded-sound : SoundDay y → SoundDay (traded y seller buyer k yen)
   unfolding traded
   traded-sound z = record {
-    runs = z.runs;
-    sizes = z.sizes;
-    codes = z.codes;
-    terms = z.terms;
-    receipts = z.receipts;
-    notices = z.notices;
-    trades = omega (arith, h.trades);
-    owed = λ j p l m. which (λ j p. j < 7 → p < n → cell owed2 j p ≤ position_limit)
-        (λ a b. omega (arith, owed-seller, h.sold)) (λ a b. omega (arith, owed-buyer, z.owed k buyer a b))
-        (λ j p ne a b. omega (arith, owed-other j p ne, z.owed j p a b)) j p l m;
+    limits = record { runs = z.limits.runs; notices = z.limits.notices; trades = omega (arith, h.trades) };
+    given = z.given;
+    positions = record {
+      owed = λ j p l m. which (λ j p. j < 7 → p < n → cell owed2 j p ≤ position_limit)
+        (λ a b. omega (arith, owed-seller, h.sold)) (λ a b. omega (arith, owed-buyer, z.positions.owed k buyer a b))
+        (λ j p ne a b. omega (arith, owed-other j p ne, z.positions.owed j p a b)) j p l m;
     due = λ j p l m. which (λ j p. j < 7 → p < n → cell due2 j p ≤ position_limit)
-        (λ a b. omega (arith, due-seller, z.due k seller a b)) (λ a b. omega (arith, due-buyer, h.bought))
-        (λ j p ne a b. omega (arith, due-other j p ne, z.due j p a b)) j p l m;
-    even = λ j l. evens j l (ℕ_discrete j k);
-    tradable = λ j l. frees j l (ℕ_discrete j k);
-    delivered = z.delivered;
-    received = z.received;
-    pairs = z.pairs;
+        (λ a b. omega (arith, due-seller, z.positions.due k seller a b)) (λ a b. omega (arith, due-buyer, h.bought))
+        (λ j p ne a b. omega (arith, due-other j p ne, z.positions.due j p a b)) j p l m;
+      even = λ j l. evens j l (ℕ_discrete j k);
+      tradable = λ j l. frees j l (ℕ_discrete j k);
+    };
+    tallies = z.tallies;
     today = z.today;
     done = λ e. absurd (omega (arith, h.runs));
   }
     where
       evens : (j : ℕ) → j < 7 → Dec (j ≡ k) → sum (row owed2 j) ≡ sum (row due2 j)
-      evens j l (yes e) = rw e (even-k (z.even k h.basket))
-      evens j l (no ne) = rw ((row_other j ne).0, (row_other j ne).1) (z.even j l)
+      evens j l (yes e) = rw e (even-k (z.positions.even k h.basket))
+      evens j l (no ne) = rw ((row_other j ne).0, (row_other j ne).1) (z.positions.even j l)
 
       frees : (j : ℕ) → j < 7 → Dec (j ≡ k) → (sum (row owed2 j) + sum (row due2 j) ≡ 0) ⊎ (tradable j y.given.terms y.given.marks ≡ true)
       frees j l (yes e) = inr (rw e h.tradable)
-      frees j l (no ne) = rw ((row_other j ne).0, (row_other j ne).1) (z.tradable j l)
+      frees j l (no ne) = rw ((row_other j ne).0, (row_other j ne).1) (z.positions.tradable j l)

@@ -176,7 +176,7 @@ module _ (y : Day) (s : Shaped y) (d : SoundDay y) where
   m = y.given.issues
 
   sizes : Sizes n m
-  sizes = sizes-of n m d.sizes
+  sizes = sizes-of n m d.given.sizes
 
   cube-words : (at : ℕ) (t : List (List (List ℕ))) → ((k : ℕ) → k < 7 → Shape (row t k) n n) → PairMarks n t → Every (λ w. Every Word w.1) (cube_rows at t)
   cube-words at t c h = every-joined (λ w. Every Word w.1) 7 (λ k. rows_at (mark_square at k) most_participants (row t k)) (λ k l.
@@ -184,20 +184,20 @@ module _ (y : Day) (s : Shaped y) (d : SoundDay y) where
 
   rows_words : Every (λ w. Every Word w.1) (joined (tables_of y))
   rows_words = every-join (λ w. Every Word w.1) (tables_of y) (
-    ((omega (arith, sizes.few), (omega (arith, sizes.most), (omega (arith, d.runs), (omega (arith, d.trades), tt)))), tt),
+    ((omega (arith, sizes.few), (omega (arith, sizes.most), (omega (arith, d.limits.runs), (omega (arith, d.limits.trades), tt)))), tt),
     (
-      every-rows Word 12 y.given.codes _ (codes-words y.given.codes m s.codes d.codes),
+      every-rows Word 12 y.given.codes _ (codes-words y.given.codes m s.codes d.given.codes),
       (
-        every-rows Word 6 (terms_rows y.given) _ (all-terms-words y.given d.terms),
+        every-rows Word 6 (terms_rows y.given) _ (all-terms-words y.given d.given.terms),
         (
           every-rows Word 32 y.given.receipts _
-              (most-words 1000000000000 n m y.given.receipts (omega arith) s.receipts (unfold receipts_fit in most-of 1000000000000 n m y.given.receipts d.receipts)),
+              (most-words 1000000000000 n m y.given.receipts (omega arith) s.receipts (unfold receipts_fit in most-of 1000000000000 n m y.given.receipts d.given.receipts)),
           (
-            cube-words pairs_at y.given.pairs s.pairs (pair-marks-of n y.given.pairs d.pairs),
+            cube-words pairs_at y.given.pairs s.pairs (pair-marks-of n y.given.pairs d.given.pairs),
             (
               every-rows Word 12 (signed_rows y.state.owed y.state.due) _ (signed-words y.state.owed y.state.due),
               (
-                every-rows Word 32 y.state.notices _ (most-words 200000000 n m y.state.notices (omega arith) s.notices d.notices),
+                every-rows Word 32 y.state.notices _ (most-words 200000000 n m y.state.notices (omega arith) s.notices d.limits.notices),
                 (
                   cube-words today_at y.state.today s.today (pair-marks-of n y.state.today d.today),
                   (every-rows Word 32 (signed_rows y.state.delivered y.state.received) _ (signed-words y.state.delivered y.state.received), tt),

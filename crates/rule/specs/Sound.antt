@@ -2,7 +2,7 @@
 use Rattle.std.specs.Prelude.{ℕ, ◌+◌, ◌*◌, Bool, ◌&&◌, ◌||◌, List, [], ◌∷◌, length, get_or, leb, ltb, eqb}
 use Rattle.lists.specs.Tests.{all_below, holds}
 use Rattle.lists.specs.Tables.{row, cell}
-use Rattle.lists.specs.Folds.{sum}
+use Rattle.lists.specs.Folds.{sum, joined}
 use Rattle.rule.specs.Value.{Terms, no_terms}
 use Rattle.rule.specs.Isin.{codes_right}
 use Rattle.rule.specs.Allocable.{Marks, no_marks}
@@ -55,32 +55,65 @@ tally_limit = 100000000000
 abbrev pub trade_limit : ℕ
 trade_limit = 10000
 
-unfoldable pub sound : Day → Bool
-sound y =
+-- ---- "A book is sound if ..": the tests of its day, in groups
+
+-- "runs done are at most 3, .. notice and trade limits hold"
+abbrev pub limit_tests : Day → List Bool
+limit_tests y =
+    leb y.state.runs 3
+    ∷ at_most notice_limit y.given.participants y.given.issues y.state.notices
+    ∷ leb y.state.trades trade_limit
+    ∷ []
+
+-- ".. all opening ranges, codes .. hold", "pair marks are 0 or 1 with none on oneself": what opening brought, yesterday's marks with it
+abbrev pub given_tests : Given → List Bool
+given_tests g =
+    sizes_fit g.participants g.issues
+    ∷ codes_right g.codes
+    ∷ all_terms_fit g.issues g.terms g.marks
+    ∷ receipts_fit g.participants g.issues g.receipts
+    ∷ pairs_fit g.participants g.pairs
+    ∷ []
+
+-- "positions are within 10^13 and sum to zero per basket, a basket with a position has an unmarked issue"
+abbrev pub position_tests : Day → List Bool
+position_tests y =
     let g : Given = y.given in
     let s : State = y.state in
-    let n : ℕ = g.participants in
-    let m : ℕ = g.issues in
-    holds (
-    -- "runs done are at most 3, all opening ranges, codes, notice and trade limits hold"
-    leb s.runs 3
-    ∷ sizes_fit n m
-    ∷ codes_right g.codes
-    ∷ all_terms_fit m g.terms g.marks
-    ∷ receipts_fit n m g.receipts
-    ∷ at_most notice_limit n m s.notices
-    ∷ leb s.trades trade_limit
-    -- "positions are within 10^13 and sum to zero per basket, a basket with a position has an unmarked issue"
-    ∷ at_most position_limit baskets n s.owed
-    ∷ at_most position_limit baskets n s.due
+    at_most position_limit baskets g.participants s.owed
+    ∷ at_most position_limit baskets g.participants s.due
     ∷ all_below baskets (λ k. eqb (sum (row s.owed k)) (sum (row s.due k)))
     ∷ all_below baskets (λ k. eqb (sum (row s.owed k) + sum (row s.due k)) 0 || tradable k g.terms g.marks)
-    -- "a tally is within 10^11 × runs done"
-    ∷ at_most (tally_limit * s.runs) n m s.delivered
-    ∷ at_most (tally_limit * s.runs) n m s.received
-    -- "pair marks are 0 or 1 with none on oneself", yesterday's and today's
-    ∷ pairs_fit n g.pairs
-    ∷ pairs_fit n s.today
-    -- "after three runs positions and notices are zero"
-    ∷ (ltb s.runs 3 || (at_most 0 baskets n s.owed && at_most 0 baskets n s.due && at_most 0 n m s.notices))
-    ∷ [])
+    ∷ []
+
+-- "a tally is within 10^11 × runs done"
+abbrev pub tally_tests : Day → List Bool
+tally_tests y =
+    at_most (tally_limit * y.state.runs) y.given.participants y.given.issues y.state.delivered
+    ∷ at_most (tally_limit * y.state.runs) y.given.participants y.given.issues y.state.received
+    ∷ []
+
+-- "pair marks are 0 or 1 with none on oneself": today's
+abbrev pub today_tests : Day → List Bool
+today_tests y = pairs_fit y.given.participants y.state.today ∷ []
+
+-- "after three runs positions and notices are zero"
+abbrev pub end_tests : Day → List Bool
+end_tests y =
+    let n : ℕ = y.given.participants in
+    let s : State = y.state in
+    (ltb s.runs 3 || (at_most 0 baskets n s.owed && at_most 0 baskets n s.due && at_most 0 n y.given.issues s.notices))
+    ∷ []
+
+abbrev pub sound_tests : Day → List (List Bool)
+sound_tests y =
+    limit_tests y
+    ∷ given_tests y.given
+    ∷ position_tests y
+    ∷ tally_tests y
+    ∷ today_tests y
+    ∷ end_tests y
+    ∷ []
+
+unfoldable pub sound : Day → Bool
+sound y = holds (joined (sound_tests y))

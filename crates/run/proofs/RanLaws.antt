@@ -264,7 +264,7 @@ module _ (b draw : List ℕ) (s : SoundBook b) (h : Runnable (view b) draw) (c d
 module _ (b draw m₀ l₀ : List ℕ) (h : Start b draw m₀ l₀) where
   terms-sound : all_terms_fit (issues_in b) (view b).given.terms (view b).given.marks ≡ true
   unfolding view
-  terms-sound = h.book.day.terms
+  terms-sound = h.book.day.given.terms
 
   -- the row of the quotes, as long as there are issues, was lent and is back
   module _ (row : List Quote) (wide : length row ≡ most_issues) {issues : List (List ℕ)} (size : length issues ≡ issues_in b) (there : issues ≡ issue_rows b) where

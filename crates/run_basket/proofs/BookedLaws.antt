@@ -170,8 +170,8 @@ module _ (b : List ℕ) (s : SoundBook b) where
           arith,
           part-total (view b) draw (λ a. pick (eqb a.match.deliverer p) (all_lots a.filled i) 0) t,
           lots-from-most (view b) draw h p i l k,
-          s.day.delivered p i l k,
-          mul-le-mul_left tally_limit s.day.runs,
+          s.day.tallies.delivered p i l k,
+          mul-le-mul_left tally_limit s.day.limits.runs,
         )
 
     back-within : (p i : ℕ) → p < n → i < issues_in b → back_to b next p i ≤ position_limit
@@ -181,8 +181,8 @@ module _ (b : List ℕ) (s : SoundBook b) where
           arith,
           part-total (view b) draw (λ a. pick (eqb a.match.receiver p) (all_lots a.filled i) 0) t,
           lots-to-most (view b) draw h p i l k,
-          s.day.received p i l k,
-          mul-le-mul_left tally_limit s.day.runs,
+          s.day.tallies.received p i l k,
+          mul-le-mul_left tally_limit s.day.limits.runs,
         )
 
     out-here : (i : ℕ) → lots_from next D i ≡ lots_from done D i + all_lots a.filled i
@@ -227,11 +227,11 @@ module _ (b : List ℕ) (s : SoundBook b) where
 
       owed-most : (k p : ℕ) → k < 7 → p < n → cell y.state.owed k p ≤ position_limit
       unfolding view
-      owed-most k p l q = s.day.owed k p l q
+      owed-most k p l q = s.day.positions.owed k p l q
 
       due-most : (k p : ℕ) → k < 7 → p < n → cell y.state.due k p ≤ position_limit
       unfolding view
-      due-most k p l q = s.day.due k p l q
+      due-most k p l q = s.day.positions.due k p l q
 
       of-deliverer : Position K D
       of-deliverer =

@@ -122,12 +122,12 @@ module _ (b draw m₀ l₀ : List ℕ) (S : Start b draw m₀ l₀) (B : Basket)
             (go (eqb a.basket a.basket) (eqb a.match.deliverer a.match.deliverer) (eq-eqb a.basket a.basket refl) (eq-eqb a.match.deliverer a.match.deliverer refl)),
         part-total (view b) draw f part,
         matched-from (view b) draw h a.basket a.match.deliverer z.basket,
-        S.book.day.owed a.basket a.match.deliverer z.basket z.deliverer,
+        S.book.day.positions.owed a.basket a.match.deliverer z.basket z.deliverer,
       )
 
   lots-notified : (i : ℕ) → i < m → get_or b (lots_cell notices_at d i) 0 ≤ 200_000_000
   unfolding view
-  lots-notified i q = omega (arith, notices-read b d i deliverer q, S.book.day.notices d i deliverer q)
+  lots-notified i q = omega (arith, notices-read b d i deliverer q, S.book.day.limits.notices d i deliverer q)
 
   allocable-few : (i : ℕ) → i < m → allocable_in b d i ≤ 200_000_000
   unfolding allocable_in view

@@ -42,18 +42,18 @@ code r z c t e f g o d s w p q x y l o' d' f' =
 
 -- and as the definition has them
 arranged : (r z c t e f g o d s w p q x y l o' d' f' : Bool)
-    → holds (r ∷ z ∷ c ∷ t ∷ e ∷ f ∷ g ∷ o ∷ d ∷ s ∷ w ∷ p ∷ q ∷ x ∷ y ∷ (l || (o' && d' && f')) ∷ [])
+    → holds (r ∷ f ∷ g ∷ z ∷ c ∷ t ∷ e ∷ x ∷ o ∷ d ∷ s ∷ w ∷ p ∷ q ∷ y ∷ (l || (o' && d' && f')) ∷ [])
     ≡ code r z c t e f g o d s w p q x y l o' d' f'
 unfolding holds
 arranged r z c t e f g o d s w p q x y l o' d' f' = left ∙ same_tests ts us (omega arith) ∙ sym right
   where
     ts : List Bool
-    ts = r ∷ z ∷ c ∷ t ∷ e ∷ f ∷ g ∷ o ∷ d ∷ s ∷ w ∷ p ∷ q ∷ x ∷ y ∷ (l || o') ∷ (l || d') ∷ (l || f') ∷ []
+    ts = r ∷ f ∷ g ∷ z ∷ c ∷ t ∷ e ∷ x ∷ o ∷ d ∷ s ∷ w ∷ p ∷ q ∷ y ∷ (l || o') ∷ (l || d') ∷ (l || f') ∷ []
 
     us : List Bool
     us = z ∷ c ∷ t ∷ e ∷ x ∷ r ∷ g ∷ f ∷ (l || f') ∷ o ∷ (l || o') ∷ d ∷ (l || d') ∷ s ∷ w ∷ p ∷ q ∷ y ∷ []
 
-    left : holds (r ∷ z ∷ c ∷ t ∷ e ∷ f ∷ g ∷ o ∷ d ∷ s ∷ w ∷ p ∷ q ∷ x ∷ y ∷ (l || (o' && d' && f')) ∷ []) ≡ holds ts
+    left : holds (r ∷ f ∷ g ∷ z ∷ c ∷ t ∷ e ∷ x ∷ o ∷ d ∷ s ∷ w ∷ p ∷ q ∷ y ∷ (l || (o' && d' && f')) ∷ []) ≡ holds ts
     left = simp (or-each, and_assoc)
 
     right : code r z c t e f g o d s w p q x y l o' d' f' ≡ holds us

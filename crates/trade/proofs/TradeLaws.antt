@@ -51,7 +51,7 @@ module _ (b : List ℕ) (s : SoundBook b) (k p at yen : ℕ) (basket : k < 7) (p
   of_day = participant
 
   pub movable : yen ≤ 1000000000000 → Movable c yen
-  movable l = record { owed = omega (arith, owed-is, s.day.owed k p basket of_day); due = omega (arith, due-is, s.day.due k p basket of_day); most = l }
+  movable l = record { owed = omega (arith, owed-is, s.day.positions.owed k p basket of_day); due = omega (arith, due-is, s.day.positions.due k p basket of_day); most = l }
 
   -- the sides of the cells that the code writes are what the check table asks
   pub sold-is : yen ≤ 1000000000000 → (to r : ℕ) → to ≡ more c yen → r ≡ plus to → r ≡ afterwards (cell (view b).state.owed k p) (cell (view b).state.due k p) yen

@@ -2,7 +2,7 @@
 use Rattle.std.proofs.Common.{◌≡◌, ◌∙◌, arith, eq-eqb, false, get_or, leb, length, ne_eqb, rules, true}
 use Rattle.std.proofs.lemmas.Bool.{lt-leb}
 use Rattle.lists.proofs.TestLaws.{said-no, said-yes, all-listed}
-use Rattle.rule.specs.Calls.{notice_checks}
+use Rattle.rule.specs.Calls.{distinct, notice_checks}
 use Rattle.rule.specs.Sound.{notice_limit}
 use Rattle.rule.specs.Day.{noticed}
 use Rattle.rule.specs.Layout.{view, stored}
@@ -82,13 +82,14 @@ returns c =
     let b = c.args.book.now in
     let l = c.args.self.now.lots.now in
     let few : all_below (length l) (λ i. leb (get_or l i 0) notice_limit) ≡ true = said-yes _ _ c.row_at_most.ensures c.if-not-row_at_most.false in
+    let once : distinct c.args.self.now.named.now ≡ true = said-yes _ _ c.all_distinct.ensures c.if-not-all_distinct.false in
     let made : c.write.new.book ≡ stored b (noticed (view b) c.args.self.now.participant c.args.self.now.named.now l) =
     accepted-notice b c.requires c.args.self.now.named.now (said-yes _ _ (c.all_of_day.ensures ∙ all-listed _ _) c.if-not-all_of_day.false)
-    c.args.self.now.participant l c.if-self-book.false c.if-self.false c.if-book-ge3.false few _ c.write.ensures in
+    c.args.self.now.participant l c.if-self-book.false c.if-self.false c.if-book-ge3.false once few _ c.write.ensures in
     pass 6 _ _ _ _ _ _ (lt-leb _ _ c.if-book-ge3.false)
     (pass 7 _ _ _ _ _ _ (lt-leb _ _ c.if-self-book.false)
     (pass 12 _ _ _ _ _ _ (said-no _ _ c.is_empty.ensures c.if-is_empty.false)
     (pass 12 _ _ _ _ _ _ (granted _ (eq-eqb _ _ c.if-self.false))
     (pass 12 _ _ _ _ _ _ (granted _ (said-yes _ _ (c.all_of_day.ensures ∙ all-listed _ _) c.if-not-all_of_day.false))
-    (pass 12 _ _ _ _ _ _ (granted _ (said-yes _ _ c.all_distinct.ensures c.if-not-all_distinct.false))
+    (pass 12 _ _ _ _ _ _ (granted _ once)
     (pass 13 _ _ _ _ _ _ (granted _ few) (accept _ _ _ _ made)))))))
