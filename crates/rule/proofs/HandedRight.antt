@@ -141,7 +141,7 @@ module _ (y : Day) (draw : List ℕ) (h : Runnable y draw) where
       → MatchHolds y (get_or matches j no_match_entry) (usable_in y matches lines j) (table y.given.issues (lots_in lines j)) (get_or done j a).filled.last
   match-right j a l =
       rw (match-lots j l, match-usable j l, match-at j, get_d_any done j a no_allocation l)
-      (match-holds y (at j) (usable_after y (take j done) (at j).basket (at j).match.deliverer) h.shaped.terms h.runs (right-at j l) (run-fills y draw h j no_allocation l))
+      (match-holds y (at j) (usable_after y (take j done) (at j).basket (at j).match.deliverer) h.shaped.given.terms h.runs (right-at j l) (run-fills y draw h j no_allocation l))
 
   match_none : (i j : ℕ) → (get_or matches j no_match_entry).covered ≡ 0 → lots_in lines j i ≡ 0
   match_none i j z = cases (dec_lt j (length done)) (dec_lt i y.given.issues)

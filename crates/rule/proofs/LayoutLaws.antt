@@ -15,13 +15,13 @@ use Rattle.lists.specs.Tables.{table, row, cell}
 use Rattle.lists.specs.Folds.{joined, Every}
 use Rattle.lists.specs.Parts.{block, grid, rows_at, written}
 use Rattle.lists.proofs.TestLaws.{pick_yes, pick_no}
-use Rattle.lists.proofs.FoldLaws.{every-join, every-parts, every-joined, joined_at}
+use Rattle.lists.proofs.FoldLaws.{every-left, every-right, every_append, every-join, every-parts, every-joined, joined_at}
 use Rattle.lists.proofs.TableLaws.{length-table, get_or-table, get_d_map}
 use Rattle.lists.proofs.PartLaws.{Inside, Outside, Reads, Rising, length-written, written_is, written_out, written-reads, Chain, rising-chain, rising-joined, Shape, Stands, stands-reads, reads-stands, rows_inside, rows-rise, rows-at, stands-agree, stands-grid, grid-shape, grid-stands}
 use Rattle.rule.specs.Value.{Terms, no_terms}
 use Rattle.rule.specs.Allocable.{Marks, no_marks}
-use Rattle.rule.specs.Day.{Given, Day, baskets, terms_of, marks_of, code_size, term_size}
-use Rattle.rule.specs.Layout.{codes_at, terms_at, receipts_at, pairs_at, positions_at, notices_at, today_at, tally_at, book_length, plus, minus, signed, signed_rows, cube, view, terms_row, terms_rows, cube_rows, given_tables, tables_of, stored, lots_cell, lots_row, mark_square, most_issues, most_participants, position_cell, position_row}
+use Rattle.rule.specs.Day.{Given, State, Day, baskets, terms_of, marks_of, code_size, term_size}
+use Rattle.rule.specs.Layout.{codes_at, terms_at, receipts_at, pairs_at, positions_at, notices_at, today_at, tally_at, book_length, plus, minus, signed, signed_rows, cube, view, terms_row, terms_rows, cube_rows, given_tables, state_tables, tables_of, stored, lots_cell, lots_row, mark_square, mark_cell, most_issues, most_participants, position_cell, position_row}
 
 -- ---- a signed number and its cell
 
@@ -88,20 +88,23 @@ cell-signs c h = go (dec_lt c half)
 
 -- ---- the shape of a day
 
+pub record ShapedGiven (g : Given) : Type 0 where
+  pub few : g.participants ≤ most_participants
+  pub most : g.issues ≤ most_issues
+  pub codes : Shape g.codes g.issues code_size
+  pub terms : length g.terms ≡ g.issues
+  pub marks : length g.marks ≡ g.issues
+  pub receipts : Shape g.receipts g.participants g.issues
+  pub pairs : (k : ℕ) → k < baskets → Shape (row g.pairs k) g.participants g.participants
+  pub pair_baskets : length g.pairs ≡ baskets
+
 pub record Shaped (y : Day) : Type 0 where
-  pub few : y.given.participants ≤ 12
-  pub most : y.given.issues ≤ 32
-  pub codes : Shape y.given.codes y.given.issues 12
-  pub terms : length y.given.terms ≡ y.given.issues
-  pub marks : length y.given.marks ≡ y.given.issues
-  pub receipts : Shape y.given.receipts y.given.participants y.given.issues
-  pub pairs : (k : ℕ) → k < 7 → Shape (row y.given.pairs k) y.given.participants y.given.participants
-  pub baskets : length y.given.pairs ≡ 7
-  pub owed : Shape y.state.owed 7 y.given.participants
-  pub due : Shape y.state.due 7 y.given.participants
+  pub given : ShapedGiven y.given
+  pub owed : Shape y.state.owed baskets y.given.participants
+  pub due : Shape y.state.due baskets y.given.participants
   pub notices : Shape y.state.notices y.given.participants y.given.issues
-  pub today : (k : ℕ) → k < 7 → Shape (row y.state.today k) y.given.participants y.given.participants
-  pub today_baskets : length y.state.today ≡ 7
+  pub today : (k : ℕ) → k < baskets → Shape (row y.state.today k) y.given.participants y.given.participants
+  pub today_baskets : length y.state.today ≡ baskets
   pub delivered : Shape y.state.delivered y.given.participants y.given.issues
   pub received : Shape y.state.received y.given.participants y.given.issues
 
@@ -191,6 +194,91 @@ four (a ∷ b ∷ []) h = absurd (omega arith)
 four (a ∷ b ∷ c ∷ []) h = absurd (omega arith)
 four (a ∷ b ∷ c ∷ d ∷ l) h = refl
 
+-- ---- the tables of a day, by name
+
+abbrev count_rows : Day → List (ℕ × List ℕ)
+count_rows y = (0, y.given.participants ∷ y.given.issues ∷ y.state.runs ∷ y.state.trades ∷ []) ∷ []
+
+abbrev code_rows : Given → List (ℕ × List ℕ)
+code_rows g = rows_at codes_at code_size g.codes
+
+abbrev issue_rows : Given → List (ℕ × List ℕ)
+issue_rows g = rows_at terms_at term_size (terms_rows g)
+
+abbrev receipt_rows : Given → List (ℕ × List ℕ)
+receipt_rows g = rows_at receipts_at most_issues g.receipts
+
+abbrev pair_rows : Given → List (ℕ × List ℕ)
+pair_rows g = cube_rows pairs_at g.pairs
+
+abbrev position_rows : State → List (ℕ × List ℕ)
+position_rows s = rows_at positions_at most_participants (signed_rows s.owed s.due)
+
+abbrev notice_rows : State → List (ℕ × List ℕ)
+notice_rows s = rows_at notices_at most_issues s.notices
+
+abbrev today_rows : State → List (ℕ × List ℕ)
+today_rows s = cube_rows today_at s.today
+
+abbrev tally_rows : State → List (ℕ × List ℕ)
+tally_rows s = rows_at tally_at most_issues (signed_rows s.delivered s.received)
+
+-- P holds of every row with its place
+pub record GivenTables (P : ℕ × List ℕ → Type 0) (g : Given) : Type 0 where
+  pub codes : Every P (code_rows g)
+  pub terms : Every P (issue_rows g)
+  pub receipts : Every P (receipt_rows g)
+  pub pairs : Every P (pair_rows g)
+
+pub record DayTables (P : ℕ × List ℕ → Type 0) (y : Day) : Type 0 where
+  pub counts : Every P (count_rows y)
+  pub given : GivenTables P y.given
+  pub positions : Every P (position_rows y.state)
+  pub notices : Every P (notice_rows y.state)
+  pub today : Every P (today_rows y.state)
+  pub tally : Every P (tally_rows y.state)
+
+module _ (P : ℕ × List ℕ → Type 0) where
+  pub given-tables-of : (g : Given) → Every P (joined (given_tables g)) → GivenTables P g
+  given-tables-of g h = shown (every-parts P (given_tables g) h)
+    where
+      shown : Every (Every P) (given_tables g) → GivenTables P g
+      shown (codes, (terms, (receipts, (pairs, _)))) = record {
+        codes = codes;
+        terms = terms;
+        receipts = receipts;
+        pairs = pairs;
+      }
+
+  each-given : (g : Given) → GivenTables P g → Every (Every P) (given_tables g)
+  each-given g t = (t.codes, (t.terms, (t.receipts, (t.pairs, tt))))
+
+  pub of-given-tables : (g : Given) → GivenTables P g → Every P (joined (given_tables g))
+  of-given-tables g t = every-join P (given_tables g) (each-given g t)
+
+  pub tables-of : (y : Day) → Every P (joined (tables_of y)) → DayTables P y
+  tables-of y h = shown (every-parts P (tables_of y) h)
+    where
+      shown_state : Every (Every P) (count_rows y ∷ given_tables y.given) → Every (Every P) (state_tables y.state) → DayTables P y
+      shown_state (counts, given) (positions, (notices, (today, (tally, _)))) = record {
+        counts = counts;
+        given = given-tables-of y.given (every-join P (given_tables y.given) given);
+        positions = positions;
+        notices = notices;
+        today = today;
+        tally = tally;
+      }
+
+      shown : Every (Every P) (tables_of y) → DayTables P y
+      shown e =
+          shown_state (every-left (Every P) (count_rows y ∷ given_tables y.given) (state_tables y.state) e) (every-right (Every P) (count_rows y ∷ given_tables y.given) (state_tables y.state) e)
+
+  pub of-tables : (y : Day) → DayTables P y → Every P (joined (tables_of y))
+  of-tables y t =
+      every-join P (tables_of y) (every_append (Every P) (count_rows y ∷ given_tables y.given) (state_tables y.state)
+      (t.counts, each-given y.given t.given)
+      (t.positions, (t.notices, (t.today, (t.tally, tt)))))
+
 -- ---- the rows of a day
 
 module _ (y : Day) (s : Shaped y) where
@@ -200,205 +288,180 @@ module _ (y : Day) (s : Shaped y) where
   abbrev m : ℕ
   m = y.given.issues
 
-  abbrev term_rows : List (List ℕ)
-  term_rows = terms_rows y.given
+  abbrev terms : List (List ℕ)
+  terms = terms_rows y.given
 
-  abbrev position_rows : List (List ℕ)
-  position_rows = signed_rows y.state.owed y.state.due
+  abbrev positions : List (List ℕ)
+  positions = signed_rows y.state.owed y.state.due
 
-  abbrev tally_rows : List (List ℕ)
-  tally_rows = signed_rows y.state.delivered y.state.received
+  abbrev tally : List (List ℕ)
+  tally = signed_rows y.state.delivered y.state.received
 
-  term-shape : Shape term_rows m term_size
+  term-shape : Shape terms m term_size
   term-shape = terms-shape y.given
 
-  position-shape : Shape position_rows 7 n
-  position-shape = signed-shape y.state.owed y.state.due 7 n s.owed
+  position-shape : Shape positions baskets n
+  position-shape = signed-shape y.state.owed y.state.due baskets n s.owed
 
-  tally-shape : Shape tally_rows n m
+  tally-shape : Shape tally n m
   tally-shape = signed-shape y.state.delivered y.state.received n m s.delivered
 
   cube-inside : (e at : ℕ) (t : List (List (List ℕ))) → ((k : ℕ) → k < 7 → Shape (row t k) n n) → mark_square at 7 ≤ e → Every (Inside e) (cube_rows at t)
   cube-inside e at t c h = every-joined (Inside e) 7 (λ k. rows_at (mark_square at k) most_participants (row t k)) (λ k l.
-      rows_inside [] (mark_square at k) most_participants n n (row t k) (c k l) e s.few (omega (arith, s.few)))
+      rows_inside [] (mark_square at k) most_participants n n (row t k) (c k l) e s.given.few (omega (arith, s.given.few)))
 
   cube-rise : (at : ℕ) (t : List (List (List ℕ))) → ((k : ℕ) → k < 7 → Shape (row t k) n n) → Rising at (cube_rows at t)
   cube-rise at t c = rising-joined 7 (λ k. rows_at (mark_square at k) most_participants (row t k)) at 144 (λ k l. (
-    rows-rise [] (mark_square at k) most_participants n n (row t k) (c k l) s.few,
-    rows_inside [] (mark_square at k) most_participants n n (row t k) (c k l) (mark_square at (suc k)) s.few (omega (arith, s.few)),
+    rows-rise [] (mark_square at k) most_participants n n (row t k) (c k l) s.given.few,
+    rows_inside [] (mark_square at k) most_participants n n (row t k) (c k l) (mark_square at (suc k)) s.given.few (omega (arith, s.given.few)),
   ))
 
   -- every table ends before the next begins
-  codes-in : (e : ℕ) → terms_at ≤ e → Every (Inside e) (rows_at codes_at code_size y.given.codes)
-  codes-in e h = rows_inside [] codes_at code_size m code_size y.given.codes s.codes e (omega arith) (omega (arith, s.most))
+  codes-in : (e : ℕ) → terms_at ≤ e → Every (Inside e) (code_rows y.given)
+  codes-in e h = rows_inside [] codes_at code_size m code_size y.given.codes s.given.codes e (omega arith) (omega (arith, s.given.most))
 
-  terms-in : (e : ℕ) → receipts_at ≤ e → Every (Inside e) (rows_at terms_at term_size term_rows)
-  terms-in e h = rows_inside [] terms_at term_size m term_size term_rows term-shape e (omega arith) (omega (arith, s.most))
+  terms-in : (e : ℕ) → receipts_at ≤ e → Every (Inside e) (issue_rows y.given)
+  terms-in e h = rows_inside [] terms_at term_size m term_size terms term-shape e (omega arith) (omega (arith, s.given.most))
 
-  receipts-in : (e : ℕ) → pairs_at ≤ e → Every (Inside e) (rows_at receipts_at most_issues y.given.receipts)
-  receipts-in e h = rows_inside [] receipts_at most_issues n m y.given.receipts s.receipts e s.most (omega (arith, s.few))
+  receipts-in : (e : ℕ) → pairs_at ≤ e → Every (Inside e) (receipt_rows y.given)
+  receipts-in e h = rows_inside [] receipts_at most_issues n m y.given.receipts s.given.receipts e s.given.most (omega (arith, s.given.few))
 
-  pairs-in : (e : ℕ) → positions_at ≤ e → Every (Inside e) (cube_rows pairs_at y.given.pairs)
-  pairs-in e h = cube-inside e pairs_at y.given.pairs s.pairs (omega arith)
+  pairs-in : (e : ℕ) → positions_at ≤ e → Every (Inside e) (pair_rows y.given)
+  pairs-in e h = cube-inside e pairs_at y.given.pairs s.given.pairs (omega arith)
 
-  positions-in : (e : ℕ) → notices_at ≤ e → Every (Inside e) (rows_at positions_at most_participants position_rows)
-  positions-in e h = rows_inside [] positions_at most_participants 7 n position_rows position-shape e s.few (omega arith)
+  positions-in : (e : ℕ) → notices_at ≤ e → Every (Inside e) (position_rows y.state)
+  positions-in e h = rows_inside [] positions_at most_participants baskets n positions position-shape e s.given.few (omega arith)
 
-  notices-in : (e : ℕ) → today_at ≤ e → Every (Inside e) (rows_at notices_at most_issues y.state.notices)
-  notices-in e h = rows_inside [] notices_at most_issues n m y.state.notices s.notices e s.most (omega (arith, s.few))
+  notices-in : (e : ℕ) → today_at ≤ e → Every (Inside e) (notice_rows y.state)
+  notices-in e h = rows_inside [] notices_at most_issues n m y.state.notices s.notices e s.given.most (omega (arith, s.given.few))
 
-  today-in : (e : ℕ) → tally_at ≤ e → Every (Inside e) (cube_rows today_at y.state.today)
+  today-in : (e : ℕ) → tally_at ≤ e → Every (Inside e) (today_rows y.state)
   today-in e h = cube-inside e today_at y.state.today s.today (omega arith)
 
-  tally-in : (e : ℕ) → book_length ≤ e → Every (Inside e) (rows_at tally_at most_issues tally_rows)
-  tally-in e h = rows_inside [] tally_at most_issues n m tally_rows tally-shape e s.most (omega (arith, s.few))
+  tally-in : (e : ℕ) → book_length ≤ e → Every (Inside e) (tally_rows y.state)
+  tally-in e h = rows_inside [] tally_at most_issues n m tally tally-shape e s.given.most (omega (arith, s.given.few))
 
-  -- the tables that opening brings, and what follows them
-  chain-on : (ts : List (ℕ × List (ℕ × List ℕ))) → Chain positions_at ts
-      → Chain codes_at ((terms_at, rows_at codes_at code_size y.given.codes) ∷ (receipts_at, rows_at terms_at term_size term_rows) ∷ (pairs_at, rows_at receipts_at most_issues y.given.receipts) ∷ (positions_at, cube_rows pairs_at y.given.pairs) ∷ ts)
-  chain-on ts c = (
-    rows-rise [] codes_at code_size m code_size y.given.codes s.codes (omega arith),
+  given-in : (e : ℕ) → positions_at ≤ e → GivenTables (Inside e) y.given
+  given-in e h = record {
+    codes = codes-in e (omega arith);
+    terms = terms-in e (omega arith);
+    receipts = receipts-in e (omega arith);
+    pairs = pairs-in e h;
+  }
+
+  pub given_inside : (e : ℕ) → positions_at ≤ e → Every (Inside e) (joined (given_tables y.given))
+  given_inside e h = of-given-tables (Inside e) y.given (given-in e h)
+
+  rows-of-inside : Every (Inside book_length) (joined (tables_of y))
+  rows-of-inside = of-tables (Inside book_length) y (record {
+    counts = (omega arith, tt);
+    given = given-in book_length (omega arith);
+    positions = positions-in book_length (omega arith);
+    notices = notices-in book_length (omega arith);
+    today = today-in book_length (omega arith);
+    tally = tally-in book_length (omega arith);
+  })
+
+  -- and their rows rise: each table with the place at which the next begins
+  abbrev state_chain : List (ℕ × List (ℕ × List ℕ))
+  state_chain = (notices_at, position_rows y.state) ∷ (today_at, notice_rows y.state) ∷ (tally_at, today_rows y.state) ∷ (book_length, tally_rows y.state) ∷ []
+
+  abbrev given_chain : List (ℕ × List (ℕ × List ℕ)) → List (ℕ × List (ℕ × List ℕ))
+  given_chain ts = (terms_at, code_rows y.given) ∷ (receipts_at, issue_rows y.given) ∷ (pairs_at, receipt_rows y.given) ∷ (positions_at, pair_rows y.given) ∷ ts
+
+  state-chain : Chain positions_at state_chain
+  state-chain = (
+    rows-rise [] positions_at most_participants baskets n positions position-shape s.given.few,
+    positions-in _ (le_refl _),
+    omega arith,
+    (
+      rows-rise [] notices_at most_issues n m y.state.notices s.notices s.given.most,
+      notices-in _ (le_refl _),
+      omega arith,
+      (
+        cube-rise today_at y.state.today s.today,
+        today-in _ (le_refl _),
+        omega arith,
+        (rows-rise [] tally_at most_issues n m tally tally-shape s.given.most, tally-in _ (le_refl _), omega arith, tt),
+      ),
+    ),
+  )
+
+  given-chain : (ts : List (ℕ × List (ℕ × List ℕ))) → Chain positions_at ts → Chain codes_at (given_chain ts)
+  given-chain ts c = (
+    rows-rise [] codes_at code_size m code_size y.given.codes s.given.codes (omega arith),
     codes-in _ (le_refl _),
     omega arith,
     (
-      rows-rise [] terms_at term_size m term_size term_rows term-shape (omega arith),
+      rows-rise [] terms_at term_size m term_size terms term-shape (omega arith),
       terms-in _ (le_refl _),
       omega arith,
       (
-        rows-rise [] receipts_at most_issues n m y.given.receipts s.receipts s.most,
+        rows-rise [] receipts_at most_issues n m y.given.receipts s.given.receipts s.given.most,
         receipts-in _ (le_refl _),
         omega arith,
-        (cube-rise pairs_at y.given.pairs s.pairs, pairs-in _ (le_refl _), omega arith, c),
+        (cube-rise pairs_at y.given.pairs s.given.pairs, pairs-in _ (le_refl _), omega arith, c),
       ),
     ),
   )
-
-  pub given_inside : (e : ℕ) → positions_at ≤ e → Every (Inside e) (joined (given_tables y.given))
-  given_inside e h =
-      every-join (Inside e) (given_tables y.given) (codes-in e (omega arith), (terms-in e (omega arith), (receipts-in e (omega arith), (pairs-in e h, tt))))
 
   pub given-rise : Rising codes_at (joined (given_tables y.given))
-  given-rise =
-      rising-chain codes_at
-      ((terms_at, get_or (given_tables y.given) 0 [])
-      ∷ (receipts_at, get_or (given_tables y.given) 1 [])
-      ∷ (pairs_at, get_or (given_tables y.given) 2 [])
-      ∷ (positions_at, get_or (given_tables y.given) 3 [])
-      ∷ [])
-      (chain-on [] tt)
-
-  rows-of-inside : Every (Inside book_length) (joined (tables_of y))
-  rows-of-inside = every-join (Inside book_length) (tables_of y) (
-    (omega arith, tt),
-    (
-      codes-in _ (omega arith),
-      (
-        terms-in _ (omega arith),
-        (
-          receipts-in _ (omega arith),
-          (pairs-in _ (omega arith), (positions-in _ (omega arith), (notices-in _ (omega arith), (today-in _ (omega arith), (tally-in _ (omega arith), tt))))),
-        ),
-      ),
-    ),
-  )
+  given-rise = rising-chain codes_at (given_chain []) (given-chain [] tt)
 
   rows-of-rise : Rising 0 (joined (tables_of y))
-  rows-of-rise =
-      rising-chain 0
-      ((codes_at, get_or (tables_of y) 0 [])
-      ∷ (terms_at, get_or (tables_of y) 1 [])
-      ∷ (receipts_at, get_or (tables_of y) 2 [])
-      ∷ (pairs_at, get_or (tables_of y) 3 [])
-      ∷ (positions_at, get_or (tables_of y) 4 [])
-      ∷ (notices_at, get_or (tables_of y) 5 [])
-      ∷ (today_at, get_or (tables_of y) 6 [])
-      ∷ (tally_at, get_or (tables_of y) 7 [])
-      ∷ (book_length, get_or (tables_of y) 8 [])
-      ∷ []) (
-        (omega arith, tt),
-        (omega arith, tt),
-        omega arith,
-        chain-on
-            ((notices_at, get_or (tables_of y) 5 []) ∷ (today_at, get_or (tables_of y) 6 []) ∷ (tally_at, get_or (tables_of y) 7 []) ∷ (book_length, get_or (tables_of y) 8 []) ∷ []) (
-              rows-rise [] positions_at most_participants 7 n position_rows position-shape s.few,
-              positions-in _ (le_refl _),
-              omega arith,
-              (
-                rows-rise [] notices_at most_issues n m y.state.notices s.notices s.most,
-                notices-in _ (le_refl _),
-                omega arith,
-                (
-                  cube-rise today_at y.state.today s.today,
-                  today-in _ (le_refl _),
-                  omega arith,
-                  (rows-rise [] tally_at most_issues n m tally_rows tally-shape s.most, tally-in _ (le_refl _), omega arith, tt),
-                ),
-              ),
-            ),
-      )
+  rows-of-rise = rising-chain 0 ((codes_at, count_rows y) ∷ given_chain state_chain) ((omega arith, tt), (omega arith, tt), omega arith, given-chain state_chain state-chain)
 
   -- ---- rows that are read, and cells
 
   cube-reads : (b : List ℕ) (at : ℕ) (t : List (List (List ℕ))) → ((k : ℕ) → k < 7 → Shape (row t k) n n) → mark_square at 7 ≤ length b
       → ((k : ℕ) → k < 7 → Stands b (mark_square at k) most_participants n n (row t k)) → Every (Reads b) (cube_rows at t)
   cube-reads b at t c fit h = every-joined (Reads b) 7 (λ k. rows_at (mark_square at k) most_participants (row t k)) (λ k l.
-      stands-reads b (mark_square at k) most_participants n n (row t k) (c k l) s.few (omega (arith, s.few)) (h k l))
+      stands-reads b (mark_square at k) most_participants n n (row t k) (c k l) s.given.few (omega (arith, s.given.few)) (h k l))
 
   cube-stands : (b : List ℕ) (at : ℕ) (t : List (List (List ℕ))) → ((k : ℕ) → k < 7 → Shape (row t k) n n) → Every (Reads b) (cube_rows at t)
       → (k : ℕ) → k < 7 → Stands b (mark_square at k) most_participants n n (row t k)
   cube-stands b at t c h k l = reads-stands b (mark_square at k) most_participants n n (row t k) (c k l) (joined_at (Reads b) 7 (λ k. rows_at (mark_square at k) most_participants (row t k)) h k l)
 
   holds-reads : (b : List ℕ) → length b ≡ book_length → Holds b y → Every (Reads b) (joined (tables_of y))
-  holds-reads b e h = every-join (Reads b) (tables_of y) (
-    (four b (omega arith) ∙ (λ k. h.participants k ∷ h.issues k ∷ h.runs k ∷ h.trades k ∷ []), tt),
-    (
-      stands-reads b codes_at code_size m code_size y.given.codes s.codes (omega arith) (omega (arith, s.most)) h.given.codes,
-      (
-        stands-reads b terms_at term_size m term_size term_rows term-shape (omega arith) (omega (arith, s.most)) h.given.terms,
-        (
-          stands-reads b receipts_at most_issues n m y.given.receipts s.receipts s.most (omega (arith, s.few)) h.given.receipts,
-          (
-            cube-reads b pairs_at y.given.pairs s.pairs (omega arith) h.given.pairs,
-            (
-              stands-reads b positions_at most_participants 7 n position_rows position-shape s.few (omega arith) h.positions,
-              (
-                stands-reads b notices_at most_issues n m y.state.notices s.notices s.most (omega (arith, s.few)) h.notices,
-                (
-                  cube-reads b today_at y.state.today s.today (omega arith) h.today,
-                  (stands-reads b tally_at most_issues n m tally_rows tally-shape s.most (omega (arith, s.few)) h.tally, tt),
-                ),
-              ),
-            ),
-          ),
-        ),
-      ),
-    ),
-  )
+  holds-reads b e h = of-tables (Reads b) y (record {
+    counts = (four b (omega arith) ∙ (λ k. h.participants k ∷ h.issues k ∷ h.runs k ∷ h.trades k ∷ []), tt);
+    given = record {
+      codes = stands-reads b codes_at code_size m code_size y.given.codes s.given.codes (omega arith) (omega (arith, s.given.most)) h.given.codes;
+      terms = stands-reads b terms_at term_size m term_size terms term-shape (omega arith) (omega (arith, s.given.most)) h.given.terms;
+      receipts = stands-reads b receipts_at most_issues n m y.given.receipts s.given.receipts s.given.most (omega (arith, s.given.few)) h.given.receipts;
+      pairs = cube-reads b pairs_at y.given.pairs s.given.pairs (omega arith) h.given.pairs;
+    };
+    positions = stands-reads b positions_at most_participants baskets n positions position-shape s.given.few (omega arith) h.positions;
+    notices = stands-reads b notices_at most_issues n m y.state.notices s.notices s.given.most (omega (arith, s.given.few)) h.notices;
+    today = cube-reads b today_at y.state.today s.today (omega arith) h.today;
+    tally = stands-reads b tally_at most_issues n m tally tally-shape s.given.most (omega (arith, s.given.few)) h.tally;
+  })
+
+  given-stands : (b : List ℕ) → GivenTables (Reads b) y.given → HoldsGiven b y.given
+  given-stands b r = record {
+    codes = reads-stands b codes_at code_size m code_size y.given.codes s.given.codes r.codes;
+    terms = reads-stands b terms_at term_size m term_size terms term-shape r.terms;
+    receipts = reads-stands b receipts_at most_issues n m y.given.receipts s.given.receipts r.receipts;
+    pairs = cube-stands b pairs_at y.given.pairs s.given.pairs r.pairs;
+  }
 
   pub reads-given : (b : List ℕ) → Every (Reads b) (joined (given_tables y.given)) → HoldsGiven b y.given
-  reads-given b h =
-      let r : Every (Every (Reads b)) (given_tables y.given) = every-parts (Reads b) (given_tables y.given) h in
-      record {
-        codes = reads-stands b codes_at code_size m code_size y.given.codes s.codes r.0;
-        terms = reads-stands b terms_at term_size m term_size term_rows term-shape r.1.0;
-        receipts = reads-stands b receipts_at most_issues n m y.given.receipts s.receipts r.1.1.0;
-        pairs = cube-stands b pairs_at y.given.pairs s.pairs r.1.1.1.0;
-      }
+  reads-given b h = given-stands b (given-tables-of (Reads b) y.given h)
 
   reads-holds : (b : List ℕ) → length b ≡ book_length → Every (Reads b) (joined (tables_of y)) → Holds b y
   reads-holds b e h =
-      let r : Every (Every (Reads b)) (tables_of y) = every-parts (Reads b) (tables_of y) h in
-      let head : get_or b 0 0 ∷ get_or b 1 0 ∷ get_or b 2 0 ∷ get_or b 3 0 ∷ [] ≡ n ∷ m ∷ y.state.runs ∷ y.state.trades ∷ [] = sym (four b (omega arith)) ∙ r.0.0 in
+      let r : DayTables (Reads b) y = tables-of (Reads b) y h in
+      let head : get_or b 0 0 ∷ get_or b 1 0 ∷ get_or b 2 0 ∷ get_or b 3 0 ∷ [] ≡ n ∷ m ∷ y.state.runs ∷ y.state.trades ∷ [] = sym (four b (omega arith)) ∙ r.counts.0 in
       record {
         participants = ap (λ (l : List ℕ). get_or l 0 0) head;
         issues = ap (λ (l : List ℕ). get_or l 1 0) head;
         runs = ap (λ (l : List ℕ). get_or l 2 0) head;
         trades = ap (λ (l : List ℕ). get_or l 3 0) head;
-        given = reads-given b (every-join (Reads b) (given_tables y.given) (r.1.0, (r.1.1.0, (r.1.1.1.0, (r.1.1.1.1.0, tt)))));
-        positions = reads-stands b positions_at most_participants 7 n position_rows position-shape r.1.1.1.1.1.0;
-        notices = reads-stands b notices_at most_issues n m y.state.notices s.notices r.1.1.1.1.1.1.0;
-        today = cube-stands b today_at y.state.today s.today r.1.1.1.1.1.1.1.0;
-        tally = reads-stands b tally_at most_issues n m tally_rows tally-shape r.1.1.1.1.1.1.1.1.0;
+        given = given-stands b r.given;
+        positions = reads-stands b positions_at most_participants baskets n positions position-shape r.positions;
+        notices = reads-stands b notices_at most_issues n m y.state.notices s.notices r.notices;
+        today = cube-stands b today_at y.state.today s.today r.today;
+        tally = reads-stands b tally_at most_issues n m tally tally-shape r.tally;
       }
 
   -- ---- the laws
@@ -428,11 +491,11 @@ module _ (y : Day) (s : Shaped y) where
 
     -- a place outside the day's tables is outside each row
     module _ (j : ℕ) (q : Every (Outside j) (joined (tables_of y))) where
-      parts : Every (Every (Outside j)) (tables_of y)
-      parts = every-parts (Outside j) (tables_of y) q
+      parts : DayTables (Outside j) y
+      parts = tables-of (Outside j) y q
 
       pub outside-sizes : 4 ≤ j
-      outside-sizes = past parts.0.0
+      outside-sizes = past parts.counts.0
         where
           past : (j < 0) ⊎ (4 ≤ j) → 4 ≤ j
           past (inl h) = absurd (omega arith)
@@ -443,18 +506,18 @@ module _ (y : Day) (s : Shaped y) where
           subst (λ (i : ℕ). (j < at + stride * p) ⊎ (at + stride * p + i ≤ j)) (c.cells p h) (rows-at (Outside j) stride t at v p (omega (arith, c.rows)))
 
       pub outside-position : (k : ℕ) → k < 7 → (j < position_row k) ⊎ (position_cell k n ≤ j)
-      outside-position k h = of_row positions_at most_participants k 7 n position_rows position-shape h parts.1.1.1.1.1.0
+      outside-position k h = of_row positions_at most_participants k baskets n positions position-shape h parts.positions
 
       pub outside-notice : (p : ℕ) → p < n → (j < lots_row notices_at p) ⊎ (lots_cell notices_at p m ≤ j)
-      outside-notice p h = of_row notices_at most_issues p n m y.state.notices s.notices h parts.1.1.1.1.1.1.0
+      outside-notice p h = of_row notices_at most_issues p n m y.state.notices s.notices h parts.notices
 
-      pub outside-pair : (k p : ℕ) → k < 7 → p < n → (j < mark_square today_at k + 12 * p) ⊎ (mark_square today_at k + 12 * p + n ≤ j)
+      pub outside-pair : (k p : ℕ) → k < 7 → p < n → (j < mark_square today_at k + most_participants * p) ⊎ (mark_cell today_at k p n ≤ j)
       outside-pair k p l h =
           of_row (mark_square today_at k) most_participants p n n (row y.state.today k) (s.today k l) h
-          (joined_at (Outside j) 7 (λ k. rows_at (mark_square today_at k) most_participants (row y.state.today k)) parts.1.1.1.1.1.1.1.0 k l)
+          (joined_at (Outside j) 7 (λ k. rows_at (mark_square today_at k) most_participants (row y.state.today k)) parts.today k l)
 
       pub outside-tally : (p : ℕ) → p < n → (j < lots_row tally_at p) ⊎ (lots_row tally_at p + m ≤ j)
-      outside-tally p h = of_row tally_at most_issues p n m tally_rows tally-shape h parts.1.1.1.1.1.1.1.1.0
+      outside-tally p h = of_row tally_at most_issues p n m tally tally-shape h parts.tally
 
   -- ---- what a book that has the day's cells is viewed as
 
@@ -467,17 +530,17 @@ module _ (y : Day) (s : Shaped y) where
   cube-view b at t e c fit h = ext_get_or [] (cube b at n) t (length-table 7 (λ k. grid b (mark_square at k) most_participants n n) ∙ sym e) (λ k l.
       let k' : k < 7 = omega (arith, length-table 7 (λ k. grid b (mark_square at k) most_participants n n)) in
       get_or-table 7 (λ k. grid b (mark_square at k) most_participants n n) k [] k'
-      ∙ stands-grid b (mark_square at k) most_participants n n (row t k) (c k k') s.few (omega (arith, s.few)) (h k k'))
+      ∙ stands-grid b (mark_square at k) most_participants n n (row t k) (c k k') s.given.few (omega (arith, s.given.few)) (h k k'))
 
   module _ (b : List ℕ) (size : length b ≡ book_length) (h : Holds b y) (g : Signed) where
-    position-grid : grid b positions_at most_participants 7 n ≡ position_rows
-    position-grid = stands-grid b positions_at most_participants 7 n position_rows position-shape s.few (omega arith) h.positions
+    position-grid : grid b positions_at most_participants baskets n ≡ positions
+    position-grid = stands-grid b positions_at most_participants baskets n positions position-shape s.given.few (omega arith) h.positions
 
-    tally-grid : grid b tally_at most_issues n m ≡ tally_rows
-    tally-grid = stands-grid b tally_at most_issues n m tally_rows tally-shape s.most (omega (arith, s.few)) h.tally
+    tally-grid : grid b tally_at most_issues n m ≡ tally
+    tally-grid = stands-grid b tally_at most_issues n m tally tally-shape s.given.most (omega (arith, s.given.few)) h.tally
 
-    term-grid : grid b terms_at term_size m term_size ≡ term_rows
-    term-grid = stands-grid b terms_at term_size m term_size term_rows term-shape (omega arith) (omega (arith, s.most)) h.given.terms
+    term-grid : grid b terms_at term_size m term_size ≡ terms
+    term-grid = stands-grid b terms_at term_size m term_size terms term-shape (omega arith) (omega (arith, s.given.most)) h.given.terms
 
     pub holds-view : view b ≡ y
     unfolding view
@@ -485,34 +548,34 @@ module _ (y : Day) (s : Shaped y) where
         let en : get_or b 0 0 ≡ n = h.participants in
         let em : get_or b 1 0 ≡ m = h.issues in
         let codes : grid b codes_at code_size (get_or b 1 0) code_size ≡ y.given.codes =
-        ap (λ (j : ℕ). grid b codes_at code_size j code_size) em ∙ stands-grid b codes_at code_size m code_size y.given.codes s.codes (omega arith) (omega (arith, s.most)) h.given.codes in
-        let terms : map terms_of (grid b terms_at term_size (get_or b 1 0) term_size) ≡ y.given.terms =
+        ap (λ (j : ℕ). grid b codes_at code_size j code_size) em ∙ stands-grid b codes_at code_size m code_size y.given.codes s.given.codes (omega arith) (omega (arith, s.given.most)) h.given.codes in
+        let issue_terms : map terms_of (grid b terms_at term_size (get_or b 1 0) term_size) ≡ y.given.terms =
         ap (λ (j : ℕ). map terms_of (grid b terms_at term_size j term_size)) em
-        ∙ ap (map terms_of) term-grid ∙ terms-back y.given s.terms in
+        ∙ ap (map terms_of) term-grid ∙ terms-back y.given s.given.terms in
         let marks : map marks_of (grid b terms_at term_size (get_or b 1 0) term_size) ≡ y.given.marks =
-        ap (λ (j : ℕ). map marks_of (grid b terms_at term_size j term_size)) em ∙ ap (map marks_of) term-grid ∙ marks-back y.given s.marks in
+        ap (λ (j : ℕ). map marks_of (grid b terms_at term_size j term_size)) em ∙ ap (map marks_of) term-grid ∙ marks-back y.given s.given.marks in
         let receipts : grid b receipts_at most_issues (get_or b 0 0) (get_or b 1 0) ≡ y.given.receipts =
-        ap₂ (grid b receipts_at 32) en em ∙ stands-grid b receipts_at most_issues n m y.given.receipts s.receipts s.most (omega (arith, s.few)) h.given.receipts in
+        ap₂ (grid b receipts_at most_issues) en em ∙ stands-grid b receipts_at most_issues n m y.given.receipts s.given.receipts s.given.most (omega (arith, s.given.few)) h.given.receipts in
         let pairs : cube b pairs_at (get_or b 0 0) ≡ y.given.pairs =
-        ap (cube b pairs_at) en ∙ cube-view b pairs_at y.given.pairs s.baskets s.pairs (omega arith) h.given.pairs in
-        let positions : (f : ℕ → ℕ) → map (map f) (grid b positions_at most_participants baskets (get_or b 0 0)) ≡ map (map f) position_rows =
+        ap (cube b pairs_at) en ∙ cube-view b pairs_at y.given.pairs s.given.pair_baskets s.given.pairs (omega arith) h.given.pairs in
+        let side_positions : (f : ℕ → ℕ) → map (map f) (grid b positions_at most_participants baskets (get_or b 0 0)) ≡ map (map f) positions =
         λ f. ap (λ (j : ℕ). map (map f) (grid b positions_at most_participants baskets j)) en ∙ ap (map (map f)) position-grid in
         let notices : grid b notices_at most_issues (get_or b 0 0) (get_or b 1 0) ≡ y.state.notices =
-        ap₂ (grid b notices_at 32) en em ∙ stands-grid b notices_at most_issues n m y.state.notices s.notices s.most (omega (arith, s.few)) h.notices in
+        ap₂ (grid b notices_at most_issues) en em ∙ stands-grid b notices_at most_issues n m y.state.notices s.notices s.given.most (omega (arith, s.given.few)) h.notices in
         let today : cube b today_at (get_or b 0 0) ≡ y.state.today =
         ap (cube b today_at) en ∙ cube-view b today_at y.state.today s.today_baskets s.today (omega arith) h.today in
-        let tally : (f : ℕ → ℕ) → map (map f) (grid b tally_at most_issues (get_or b 0 0) (get_or b 1 0)) ≡ map (map f) tally_rows =
-        λ f. ap (map (map f)) (ap₂ (grid b tally_at 32) en em ∙ tally-grid) in
+        let side_tally : (f : ℕ → ℕ) → map (map f) (grid b tally_at most_issues (get_or b 0 0) (get_or b 1 0)) ≡ map (map f) tally =
+        λ f. ap (map (map f)) (ap₂ (grid b tally_at most_issues) en em ∙ tally-grid) in
         let owed : map (map plus) (grid b positions_at most_participants baskets (get_or b 0 0)) ≡ y.state.owed =
-        positions plus ∙ parts-of plus y.state.owed y.state.due y.state.owed 7 n s.owed s.owed (λ k p l j. plus-signed (g.positions k p l j)) in
+        side_positions plus ∙ parts-of plus y.state.owed y.state.due y.state.owed 7 n s.owed s.owed (λ k p l j. plus-signed (g.positions k p l j)) in
         let due : map (map minus) (grid b positions_at most_participants baskets (get_or b 0 0)) ≡ y.state.due =
-        positions minus ∙ parts-of minus y.state.owed y.state.due y.state.due 7 n s.owed s.due (λ k p l j. minus-signed (g.positions k p l j)) in
+        side_positions minus ∙ parts-of minus y.state.owed y.state.due y.state.due 7 n s.owed s.due (λ k p l j. minus-signed (g.positions k p l j)) in
         let delivered : map (map plus) (grid b tally_at most_issues (get_or b 0 0) (get_or b 1 0)) ≡ y.state.delivered =
-        tally plus ∙ parts-of plus y.state.delivered y.state.received y.state.delivered n m s.delivered s.delivered (λ p i l j. plus-signed (g.tally p i l j)) in
+        side_tally plus ∙ parts-of plus y.state.delivered y.state.received y.state.delivered n m s.delivered s.delivered (λ p i l j. plus-signed (g.tally p i l j)) in
         let received : map (map minus) (grid b tally_at most_issues (get_or b 0 0) (get_or b 1 0)) ≡ y.state.received =
-        tally minus ∙ parts-of minus y.state.delivered y.state.received y.state.received n m s.delivered s.received (λ p i l j. minus-signed (g.tally p i l j)) in
+        side_tally minus ∙ parts-of minus y.state.delivered y.state.received y.state.received n m s.delivered s.received (λ p i l j. minus-signed (g.tally p i l j)) in
         λ i. record {
-          given = record { participants = en i; issues = em i; codes = codes i; terms = terms i; marks = marks i; receipts = receipts i; pairs = pairs i };
+          given = record { participants = en i; issues = em i; codes = codes i; terms = issue_terms i; marks = marks i; receipts = receipts i; pairs = pairs i };
           state = record {
             runs = h.runs i;
             trades = h.trades i;
@@ -593,14 +656,16 @@ module _ (b : List ℕ) (r : Readable b) where
   pub view-shaped : Shaped (view b)
   unfolding view
   view-shaped = record {
-    few = r.few;
-    most = r.most;
-    codes = grid-shape b codes_at code_size (get_or b 1 0) code_size (omega arith) (omega (arith, r.size, r.most));
-    terms = length-map (grid b terms_at term_size (get_or b 1 0) term_size) terms_of ∙ length-table (get_or b 1 0) _;
-    marks = length-map (grid b terms_at term_size (get_or b 1 0) term_size) marks_of ∙ length-table (get_or b 1 0) _;
-    receipts = grid-shape b receipts_at most_issues (get_or b 0 0) (get_or b 1 0) r.most (omega (arith, r.size, r.few));
-    pairs = cube-read pairs_at (omega arith);
-    baskets = length-table 7 (λ k. grid b (mark_square pairs_at k) most_participants (get_or b 0 0) (get_or b 0 0));
+    given = record {
+      few = r.few;
+      most = r.most;
+      codes = grid-shape b codes_at code_size (get_or b 1 0) code_size (omega arith) (omega (arith, r.size, r.most));
+      terms = length-map (grid b terms_at term_size (get_or b 1 0) term_size) terms_of ∙ length-table (get_or b 1 0) _;
+      marks = length-map (grid b terms_at term_size (get_or b 1 0) term_size) marks_of ∙ length-table (get_or b 1 0) _;
+      receipts = grid-shape b receipts_at most_issues (get_or b 0 0) (get_or b 1 0) r.most (omega (arith, r.size, r.few));
+      pairs = cube-read pairs_at (omega arith);
+      pair_baskets = length-table baskets (λ k. grid b (mark_square pairs_at k) most_participants (get_or b 0 0) (get_or b 0 0));
+    };
     owed = map-shape plus (grid b positions_at most_participants 7 (get_or b 0 0)) 7 (get_or b 0 0) position-read;
     due = map-shape minus (grid b positions_at most_participants 7 (get_or b 0 0)) 7 (get_or b 0 0) position-read;
     notices = grid-shape b notices_at most_issues (get_or b 0 0) (get_or b 1 0) r.most (omega (arith, r.size, r.few));
@@ -657,28 +722,28 @@ module _ (b : List ℕ) (r : Readable b) where
 module _ (y : Day) (s : Shaped y) (b c : List ℕ) where
   pub given-kept : ((j : ℕ) → 4 ≤ j → j < positions_at → get_or c j 0 ≡ get_or b j 0) → HoldsGiven b y.given → HoldsGiven c y.given
   given-kept same v = record {
-    codes = stands-agree b c codes_at code_size y.given.issues code_size y.given.codes (omega arith) (λ j l k. same j (omega arith) (omega (arith, s.most))) v.codes;
-    terms = stands-agree b c terms_at term_size y.given.issues term_size (terms_rows y.given) (omega arith) (λ j l k. same j (omega arith) (omega (arith, s.most))) v.terms;
-    receipts = stands-agree b c receipts_at most_issues y.given.participants y.given.issues y.given.receipts s.most (λ j l k. same j (omega arith) (omega (arith, s.few))) v.receipts;
-    pairs = λ q h. stands-agree b c (mark_square pairs_at q) most_participants y.given.participants y.given.participants (row y.given.pairs q) s.few (λ j l k. same j (omega arith) (omega (arith, s.few))) (v.pairs q h);
+    codes = stands-agree b c codes_at code_size y.given.issues code_size y.given.codes (omega arith) (λ j l k. same j (omega arith) (omega (arith, s.given.most))) v.codes;
+    terms = stands-agree b c terms_at term_size y.given.issues term_size (terms_rows y.given) (omega arith) (λ j l k. same j (omega arith) (omega (arith, s.given.most))) v.terms;
+    receipts = stands-agree b c receipts_at most_issues y.given.participants y.given.issues y.given.receipts s.given.most (λ j l k. same j (omega arith) (omega (arith, s.given.few))) v.receipts;
+    pairs = λ q h. stands-agree b c (mark_square pairs_at q) most_participants y.given.participants y.given.participants (row y.given.pairs q) s.given.few (λ j l k. same j (omega arith) (omega (arith, s.given.few))) (v.pairs q h);
   }
 
   pub positions-kept : ((j : ℕ) → positions_at ≤ j → j < notices_at → get_or c j 0 ≡ get_or b j 0) → Holds b y
       → Stands c positions_at most_participants 7 y.given.participants (signed_rows y.state.owed y.state.due)
   positions-kept same v =
-      stands-agree b c positions_at most_participants 7 y.given.participants (signed_rows y.state.owed y.state.due) s.few (λ j l k. same j l (omega arith)) v.positions
+      stands-agree b c positions_at most_participants 7 y.given.participants (signed_rows y.state.owed y.state.due) s.given.few (λ j l k. same j l (omega arith)) v.positions
 
   pub notices-kept : ((j : ℕ) → notices_at ≤ j → j < today_at → get_or c j 0 ≡ get_or b j 0) → Holds b y
       → Stands c notices_at most_issues y.given.participants y.given.issues y.state.notices
   notices-kept same v =
-      stands-agree b c notices_at most_issues y.given.participants y.given.issues y.state.notices s.most (λ j l k. same j l (omega (arith, s.few))) v.notices
+      stands-agree b c notices_at most_issues y.given.participants y.given.issues y.state.notices s.given.most (λ j l k. same j l (omega (arith, s.given.few))) v.notices
 
   pub today-kept : ((j : ℕ) → today_at ≤ j → j < tally_at → get_or c j 0 ≡ get_or b j 0) → Holds b y
       → (k : ℕ) → k < 7 → Stands c (mark_square today_at k) most_participants y.given.participants y.given.participants (row y.state.today k)
   today-kept same v q h =
-      stands-agree b c (mark_square today_at q) most_participants y.given.participants y.given.participants (row y.state.today q) s.few (λ j l k. same j (omega arith) (omega (arith, s.few))) (v.today q h)
+      stands-agree b c (mark_square today_at q) most_participants y.given.participants y.given.participants (row y.state.today q) s.given.few (λ j l k. same j (omega arith) (omega (arith, s.given.few))) (v.today q h)
 
   pub tally-kept : ((j : ℕ) → tally_at ≤ j → get_or c j 0 ≡ get_or b j 0) → Holds b y
       → Stands c tally_at most_issues y.given.participants y.given.issues (signed_rows y.state.delivered y.state.received)
   tally-kept same v =
-      stands-agree b c tally_at most_issues y.given.participants y.given.issues (signed_rows y.state.delivered y.state.received) s.most (λ j l k. same j l) v.tally
+      stands-agree b c tally_at most_issues y.given.participants y.given.issues (signed_rows y.state.delivered y.state.received) s.given.most (λ j l k. same j l) v.tally

@@ -76,14 +76,7 @@ module _ (y : Day) (s : Shaped y) (p : ℕ) (issues lots : List ℕ) (h : Notice
   pub noticed-shaped : Shaped (noticed y p issues lots)
   unfolding noticed
   noticed-shaped = record {
-    few = s.few;
-    most = s.most;
-    codes = s.codes;
-    terms = s.terms;
-    marks = s.marks;
-    receipts = s.receipts;
-    pairs = s.pairs;
-    baskets = s.baskets;
+    given = s.given;
     owed = s.owed;
     due = s.due;
     notices = rows-shape;
@@ -130,7 +123,7 @@ module _ (b : List ℕ) (r : Readable b) (p : ℕ) (issues lots : List ℕ) (h :
   after = over b at written
 
   fits : at + length written ≤ length b
-  fits = omega (arith, length-notice_row y.given.issues issues lots, s.few, s.most, h.sender, r.size)
+  fits = omega (arith, length-notice_row y.given.issues issues lots, s.given.few, s.given.most, h.sender, r.size)
 
   after-out : (j : ℕ) → (j < at) ⊎ (at + y.given.issues ≤ j) → get_or after j 0 ≡ get_or b j 0
   after-out j w = over-out b written at fits j (subst (λ (k : ℕ). (j < at) ⊎ (at + k ≤ j)) (sym (length-notice_row y.given.issues issues lots)) w)
@@ -143,15 +136,15 @@ module _ (b : List ℕ) (r : Readable b) (p : ℕ) (issues lots : List ℕ) (h :
       go (no ne) = rw (row_other y s p issues lots h q ne) (after-out (lots_cell notices_at q i) (apart (dec_lt q p)) ∙ (view-holds b r).notices q i l k)
         where
           apart : Dec (q < p) → (lots_cell notices_at q i < at) ⊎ (at + y.given.issues ≤ lots_cell notices_at q i)
-          apart (yes a) = inl (omega (arith, s.most))
-          apart (no a) = inr (omega (arith, s.most))
+          apart (yes a) = inl (omega (arith, s.given.most))
+          apart (no a) = inr (omega (arith, s.given.most))
 
   after_holds : Holds after (noticed y p issues lots)
   unfolding noticed
   after_holds =
       let v : Holds b y = view-holds b r in
       let first : (j : ℕ) → j < notices_at → get_or after j 0 ≡ get_or b j 0 = λ j l. after-out j (inl (omega arith)) in
-      let last : (j : ℕ) → today_at ≤ j → get_or after j 0 ≡ get_or b j 0 = λ j l. after-out j (inr (omega (arith, s.few, s.most, h.sender))) in
+      let last : (j : ℕ) → today_at ≤ j → get_or after j 0 ≡ get_or b j 0 = λ j l. after-out j (inr (omega (arith, s.given.few, s.given.most, h.sender))) in
       record {
         participants = first 0 (omega arith) ∙ v.participants;
         issues = first 1 (omega arith) ∙ v.issues;

@@ -15,14 +15,14 @@ use Rattle.lists.specs.Tables.{table, zeros, zero_rows, row, cell}
 use Rattle.lists.specs.Folds.{sum, joined, Every}
 use Rattle.lists.specs.Parts.{grid, written}
 use Rattle.lists.proofs.TestLaws.{all_of, go}
-use Rattle.lists.proofs.FoldLaws.{sum_zeros, every_map, every-join, every-parts}
+use Rattle.lists.proofs.FoldLaws.{sum_zeros, every_map}
 use Rattle.lists.proofs.TableLaws.{length-table, length-zeros, get_or-table, get_or-zeros}
 use Rattle.lists.proofs.PartLaws.{Inside, Outside, Shape, Stands, grid-shape, length-written, written_out, written-reads, rising-past}
 use Rattle.rule.specs.Day.{Given, baskets, mark, terms_of, given_of, opened, marks_of, code_size, term_size}
 use Rattle.rule.specs.Layout.{codes_at, positions_at, notices_at, today_at, tally_at, book_length, signed, signed_rows, given_tables, tables_of, stored, mark_square, most_issues, most_participants}
 use Rattle.rule.specs.Sound.{sizes_fit, at_most, pairs_fit, position_limit, notice_limit, tally_limit}
 use Rattle.rule.proofs.SoundLaws.{Most, of-most, Sizes, sizes-of, SoundGiven, SoundDay}
-use Rattle.rule.proofs.LayoutLaws.{Shaped, Signed, Signs, Holds, signed-cell, given_inside, given-rise, reads-given, outside-sizes, stored_is}
+use Rattle.rule.proofs.LayoutLaws.{of-given-tables, tables-of, Shaped, Signed, Signs, Holds, signed-cell, given_inside, given-rise, reads-given, outside-sizes, stored_is}
 
 -- what an accepted opening has shown of its data
 pub record Openable (n m : ℕ) (codes terms receipts pairs : List ℕ) : Type 0 where
@@ -75,15 +75,17 @@ module _ (n m : ℕ) (codes terms receipts pairs : List ℕ) (h : Openable n m c
   pub opened-shaped : Shaped (opened g)
   unfolding opened given_of
   opened-shaped = record {
-    few = sizes.few;
-    most = sizes.most;
-    codes = grid-shape codes 0 12 m 12 (omega arith) (omega (arith, h.codes_size));
-    terms = length-map (grid terms 0 term_size m term_size) terms_of ∙ length-table m _;
-    marks = length-map (grid terms 0 term_size m term_size) marks_of ∙ length-table m _;
-    receipts = grid-shape receipts 0 m n m (le_refl m) (omega (arith, h.receipts_size, mul_comm n m));
-    pairs = λ k l. subst (λ (rows : List (List ℕ)). Shape rows n n) (sym (get_or-table 7 (λ k. grid pairs (n * n * k) n n n) k [] l))
-        (grid-shape pairs (n * n * k) n n n (le_refl n) (omega (arith, h.pairs_size, mul-le-mul_left (n * n) l, mul-suc (n * n) k, mul_comm (n * n) 7)));
-    baskets = length-table 7 (λ k. grid pairs (n * n * k) n n n);
+    given = record {
+      few = sizes.few;
+      most = sizes.most;
+      codes = grid-shape codes 0 code_size m code_size (omega arith) (omega (arith, h.codes_size));
+      terms = length-map (grid terms 0 term_size m term_size) terms_of ∙ length-table m _;
+      marks = length-map (grid terms 0 term_size m term_size) marks_of ∙ length-table m _;
+      receipts = grid-shape receipts 0 m n m (le_refl m) (omega (arith, h.receipts_size, mul_comm n m));
+      pairs = λ k l. subst (λ (rows : List (List ℕ)). Shape rows n n) (sym (get_or-table 7 (λ k. grid pairs (n * n * k) n n n) k [] l))
+          (grid-shape pairs (n * n * k) n n n (le_refl n) (omega (arith, h.pairs_size, mul-le-mul_left (n * n) l, mul-suc (n * n) k, mul_comm (n * n) 7)));
+      pair_baskets = length-table 7 (λ k. grid pairs (n * n * k) n n n);
+    };
     owed = zero-shape 7 n;
     due = zero-shape 7 n;
     notices = zero-shape n m;
@@ -182,9 +184,7 @@ module _ (n m : ℕ) (codes terms receipts pairs : List ℕ) (h : Openable n m c
   frame : (j : ℕ) → Every (Outside j) (joined (tables_of (opened g))) → get_or after j 0 ≡ get_or blank j 0
   unfolding opened
   frame j q =
-      let parts : Every (Every (Outside j)) (tables_of (opened g)) = every-parts (Outside j) (tables_of (opened g)) q in
-      written_out (joined (given_tables g)) sized j inside
-      (every-join (Outside j) (given_tables g) (parts.1.0, (parts.1.1.0, (parts.1.1.1.0, (parts.1.1.1.1.0, tt)))))
+      written_out (joined (given_tables g)) sized j inside (of-given-tables (Outside j) g (tables-of (Outside j) (opened g) q).given)
       ∙ sized-else j (omega (arith, outside-sizes (opened g) opened-shaped blank (length-blank) j q))
       ∙ sym (get_or-zeros book_length j)
 

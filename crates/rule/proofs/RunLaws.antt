@@ -183,14 +183,14 @@ module _ (y : Day) (draw : List ℕ) (h : Runnable y draw) where
   sizes = sizes-of n y.given.issues h.day.given.sizes
 
   priced : Priced ts
-  priced i l = omega (arith, prices y.given.issues ts y.given.marks h.day.given.terms h.shaped.terms i l)
+  priced i l = omega (arith, prices y.given.issues ts y.given.marks h.day.given.terms h.shaped.given.terms i l)
 
   length-usable : (k : ℕ) (before : List (List ℕ)) (done : List Allocation) (d : ℕ) → length (usable y k before done d) ≡ length ts
   unfolding usable
-  length-usable k before done d = length-table y.given.issues _ ∙ sym h.shaped.terms
+  length-usable k before done d = length-table y.given.issues _ ∙ sym h.shaped.given.terms
 
   ranked-order : (key : ℕ → ℕ) → Order (length ts) (ranked key y.given.issues)
-  ranked-order key = subst (λ (i : ℕ). Order i (ranked key y.given.issues)) (sym h.shaped.terms)
+  ranked-order key = subst (λ (i : ℕ). Order i (ranked key y.given.issues)) (sym h.shaped.given.terms)
       (record { inside = ranked-below key y.given.issues; all = ranked-mem key y.given.issues })
 
   order-named : (before : List (List ℕ)) (preferential : Bool) (d : ℕ) → Order (length ts) (issue_order y before preferential d)
@@ -199,7 +199,7 @@ module _ (y : Day) (draw : List ℕ) (h : Runnable y draw) where
   order-named before false d = ranked-order _
 
   some-issue : 0 < length ts
-  some-issue = omega (arith, h.shaped.terms, sizes.one)
+  some-issue = omega (arith, h.shaped.given.terms, sizes.one)
 
   module _ (k : ℕ) (before : List (List ℕ)) (done : List Allocation) (m : Match) where
     abbrev f : ℕ
@@ -235,8 +235,8 @@ module _ (y : Day) (draw : List ℕ) (h : Runnable y draw) where
           apart = b.apart;
           positive = b.positive;
           covered = r.most;
-          issues = s.sized ∙ h.shaped.terms;
-          forced = omega (arith, s.forced, h.shaped.terms);
+          issues = s.sized ∙ h.shaped.given.terms;
+          forced = omega (arith, s.forced, h.shaped.given.terms);
           enough = r.enough;
           fewest = r.fewest;
           none = s.none;
@@ -278,7 +278,7 @@ module _ (y : Day) (draw : List ℕ) (h : Runnable y draw) where
         arith,
         length-total (basket_plan y draw k),
         h.shaped.owed.cells k l,
-        h.shaped.few,
+        h.shaped.given.few,
         few_matches y.state.runs (row y.given.pairs k) draw (o k) (d k) (h.shaped.due.cells k l ∙ sym (h.shaped.owed.cells k l)) (one_zero k l),
       ) in
       omega (arith, length-total (allocations y draw), total-run y (λ k m. 1) draw, total-bound made 11 0 7 each)

@@ -126,8 +126,8 @@ module _ (y : Day) (draw : List ℕ) (h : Runnable y draw) where
     where
       go : Dec (0 < a.filled.covered) → least_worth * all_lots a.filled i ≤ a.filled.covered + least_worth
       go (yes q) =
-          lots-paid y.given.terms a.filled (r.issues ∙ sym h.shaped.terms) (prices y.given.issues y.given.terms y.given.marks h.day.given.terms h.shaped.terms)
-          (r.fewest q) i (omega (arith, h.shaped.terms))
+          lots-paid y.given.terms a.filled (r.issues ∙ sym h.shaped.given.terms) (prices y.given.issues y.given.terms y.given.marks h.day.given.terms h.shaped.given.terms)
+          (r.fewest q) i (omega (arith, h.shaped.given.terms))
       go (no q) = omega (arith, r.none (omega arith) i)
 
   module _ (who : Match → ℕ) (p : ℕ) where

@@ -97,14 +97,7 @@ module _ (y : Day) (draw : List ℕ) (h : Runnable y draw) where
   pub ran-shaped : Shaped (ran y (allocations y draw))
   unfolding ran
   ran-shaped = record {
-    few = h.shaped.few;
-    most = h.shaped.most;
-    codes = h.shaped.codes;
-    terms = h.shaped.terms;
-    marks = h.shaped.marks;
-    receipts = h.shaped.receipts;
-    pairs = h.shaped.pairs;
-    baskets = h.shaped.baskets;
+    given = h.shaped.given;
     owed = rows-shape 7 n owed_left;
     due = rows-shape 7 n due_left;
     notices = zero-shape n m;

@@ -107,14 +107,7 @@ module _ (y : Day) (s : Shaped y) (seller buyer k yen : ℕ) (h : Tradeable y se
   pub traded-shaped : Shaped (traded y seller buyer k yen)
   unfolding traded
   traded-shaped = record {
-    few = s.few;
-    most = s.most;
-    codes = s.codes;
-    terms = s.terms;
-    marks = s.marks;
-    receipts = s.receipts;
-    pairs = s.pairs;
-    baskets = s.baskets;
+    given = s.given;
     owed = owed2-shape;
     due = due2-shape;
     notices = s.notices;

@@ -57,7 +57,7 @@ module _ (b : List ℕ) (r : Readable b) (seller buyer k yen sold bought count :
   after = set (set (set b at_seller sold) at_buyer bought) 3 count
 
   few : y.given.participants ≤ 12
-  few = s.few
+  few = s.given.few
 
   length-after : length after ≡ book_length
   length-after = length-set (set (set b at_seller sold) at_buyer bought) 3 count ∙ length-set (set b at_seller sold) at_buyer bought ∙ length-set b at_seller sold ∙ r.size

@@ -14,20 +14,20 @@ use Rattle.lists.specs.Tables.{from, table, zeros, row, cell}
 use Rattle.lists.specs.Folds.{joined, Every}
 use Rattle.lists.specs.Parts.{over, rows_at, written}
 use Rattle.lists.proofs.TestLaws.{and_left, and_right, or_cases, all-at}
-use Rattle.lists.proofs.FoldLaws.{every_append, every-index, every-join, every-joined}
+use Rattle.lists.proofs.FoldLaws.{every_append, every-index, every-joined}
 use Rattle.lists.proofs.TableLaws.{get_or-zeros}
 use Rattle.lists.proofs.PartLaws.{Shape}
 use Rattle.rule.specs.Allocable.{Marks, no_marks}
 use Rattle.rule.specs.Value.{Terms, no_terms}
 use Rattle.rule.specs.Isin.{digit, capital, check_digit, is_isin, is_code, rising, codes_right}
-use Rattle.rule.specs.Day.{Day, given_of, opened, traded, noticed, Given}
+use Rattle.rule.specs.Day.{code_size, term_size, Day, given_of, opened, traded, noticed, Given}
 use Rattle.rule.specs.Run.{allocations, ran}
-use Rattle.rule.specs.Sound.{terms_fit, all_terms_fit, receipts_fit, marks_fit}
+use Rattle.rule.specs.Sound.{notice_limit, terms_fit, all_terms_fit, receipts_fit, marks_fit}
 use Rattle.rule.specs.Calls.{accepted, counts, open_checks, refusal, trade_checks, notice_checks}
-use Rattle.rule.specs.Layout.{pairs_at, today_at, book_length, signed, signed_rows, terms_row, terms_rows, cube_rows, tables_of, view, stored, book_fits, sound_book, open_of, trade_of, notice_of, run_of, mark_square, most_participants}
+use Rattle.rule.specs.Layout.{most_issues, pairs_at, today_at, book_length, signed, signed_rows, terms_row, terms_rows, cube_rows, tables_of, view, stored, book_fits, sound_book, open_of, trade_of, notice_of, run_of, mark_square, most_participants}
 use Rattle.rule.specs.Claims.{Words}
 use Rattle.rule.proofs.SoundLaws.{Most, most-of, Sizes, sizes-of, SoundDay}
-use Rattle.rule.proofs.LayoutLaws.{Shaped, view-shaped, terms-at, terms-length}
+use Rattle.rule.proofs.LayoutLaws.{of-tables, Shaped, view-shaped, terms-at, terms-length}
 use Rattle.rule.proofs.BookLaws.{SoundBook}
 use Rattle.rule.proofs.OpenLaws.{Openable, opened-shaped, opened-sound}
 use Rattle.rule.proofs.TradeLaws.{Tradeable, traded-shaped, traded-sound}
@@ -183,32 +183,20 @@ module _ (y : Day) (s : Shaped y) (d : SoundDay y) where
       every-rows Word 12 (row t k) (mark_square at k) (most-words 1 n n (row t k) (omega arith) (c k l) (h.most k l)))
 
   rows_words : Every (λ w. Every Word w.1) (joined (tables_of y))
-  rows_words = every-join (λ w. Every Word w.1) (tables_of y) (
-    ((omega (arith, sizes.few), (omega (arith, sizes.most), (omega (arith, d.limits.runs), (omega (arith, d.limits.trades), tt)))), tt),
-    (
-      every-rows Word 12 y.given.codes _ (codes-words y.given.codes m s.codes d.given.codes),
-      (
-        every-rows Word 6 (terms_rows y.given) _ (all-terms-words y.given d.given.terms),
-        (
-          every-rows Word 32 y.given.receipts _
-              (most-words 1000000000000 n m y.given.receipts (omega arith) s.receipts (unfold receipts_fit in most-of 1000000000000 n m y.given.receipts d.given.receipts)),
-          (
-            cube-words pairs_at y.given.pairs s.pairs (pair-marks-of n y.given.pairs d.given.pairs),
-            (
-              every-rows Word 12 (signed_rows y.state.owed y.state.due) _ (signed-words y.state.owed y.state.due),
-              (
-                every-rows Word 32 y.state.notices _ (most-words 200000000 n m y.state.notices (omega arith) s.notices d.limits.notices),
-                (
-                  cube-words today_at y.state.today s.today (pair-marks-of n y.state.today d.today),
-                  (every-rows Word 32 (signed_rows y.state.delivered y.state.received) _ (signed-words y.state.delivered y.state.received), tt),
-                ),
-              ),
-            ),
-          ),
-        ),
-      ),
-    ),
-  )
+  rows_words = of-tables (λ w. Every Word w.1) y (record {
+    counts = ((omega (arith, sizes.few), (omega (arith, sizes.most), (omega (arith, d.limits.runs), (omega (arith, d.limits.trades), tt)))), tt);
+    given = record {
+      codes = every-rows Word code_size y.given.codes _ (codes-words y.given.codes m s.given.codes d.given.codes);
+      terms = every-rows Word term_size (terms_rows y.given) _ (all-terms-words y.given d.given.terms);
+      receipts = every-rows Word most_issues y.given.receipts _
+          (most-words 1000000000000 n m y.given.receipts (omega arith) s.given.receipts (unfold receipts_fit in most-of 1000000000000 n m y.given.receipts d.given.receipts));
+      pairs = cube-words pairs_at y.given.pairs s.given.pairs (pair-marks-of n y.given.pairs d.given.pairs);
+    };
+    positions = every-rows Word most_participants (signed_rows y.state.owed y.state.due) _ (signed-words y.state.owed y.state.due);
+    notices = every-rows Word most_issues y.state.notices _ (most-words notice_limit n m y.state.notices (omega arith) s.notices d.limits.notices);
+    today = cube-words today_at y.state.today s.today (pair-marks-of n y.state.today d.today);
+    tally = every-rows Word most_issues (signed_rows y.state.delivered y.state.received) _ (signed-words y.state.delivered y.state.received);
+  })
 
   -- a book of words stays one when a sound day is stored
   pub stored-words : (b : List ℕ) → Words b → Words (stored b y)
