@@ -22,6 +22,7 @@ use Rattle.std.specs.declared.ops.RangeInclusive.{RangeInclusive}
 use Rattle.std.specs.Range.{range_inclusive_contains, range_inclusive_start, range_inclusive_end, range_inclusive_exhausted}
 use Rattle.lists.specs.Tests.{pick, same, all_below}
 use Rattle.lists.specs.Parts.{block, grid}
+use Rattle.rule.specs.Day.{code_size}
 use Rattle.rule.specs.Isin.{digit, capital, spread, doubled, check_digit, is_isin, before, rising, is_code, codes_right}
 use Rattle.isin.specs.declared.Sums.{Sums}
 use Rattle.isin.specs.Code.{of_japan}
@@ -223,15 +224,15 @@ module _ (c : List ℕ) where
     japan-second {p} f k = row-go _ _ _ (sym (rw e at q) ∙ f) (ap (eqb (get_or c 1 0)) k) ∙ sym (two l)
 
 -- the codes stand one after the other
-chunks-are : (cells : List ℕ) → cut 12 cells ≡ grid cells 0 12 (length cells / 12) 12
+chunks-are : (cells : List ℕ) → cut code_size cells ≡ grid cells 0 code_size (length cells / code_size) code_size
 chunks-are cells =
-    let k : ℕ = length cells / 12 in
-    let e : length (grid cells 0 12 k 12) ≡ k = length-table k (λ p. block cells (0 + 12 * p) 12) in
-    ext_get_or [] (cut 12 cells) (grid cells 0 12 k 12) (cut-count 12 cells ∙ sym e)
-    (λ p h. let o : p < k = omega (arith, cut-count 12 cells) in cut-get 12 cells p o ∙ sym (row_at cells k 12 p o))
+    let k : ℕ = length cells / code_size in
+    let e : length (grid cells 0 code_size k code_size) ≡ k = length-table k (λ p. block cells (0 + code_size * p) code_size) in
+    ext_get_or [] (cut code_size cells) (grid cells 0 code_size k code_size) (cut-count code_size cells ∙ sym e)
+    (λ p h. let o : p < k = omega (arith, cut-count code_size cells) in cut-get code_size cells p o ∙ sym (row_at cells k code_size p o))
 
-pub codes-are : (cells : List ℕ) {cs : List (List ℕ)} → cs ≡ cut 12 cells
-    → codes_right cs ≡ codes_right (grid cells 0 12 (length cells / 12) 12)
+pub codes-are : (cells : List ℕ) {cs : List (List ℕ)} → cs ≡ cut code_size cells
+    → codes_right cs ≡ codes_right (grid cells 0 code_size (length cells / code_size) code_size)
 codes-are cells e = ap codes_right (e ∙ chunks-are cells)
 
 -- codes that were tested by the library's methods

@@ -3,6 +3,7 @@
 
 ghost use Rattle.std.specs.Prelude.{◌≡◌, ◌+◌, ◌*◌, ◌/◌, ◌%◌, ◌≤◌, length, max};
 ghost use Rattle.lists.specs.Parts.{grid};
+ghost use Rattle.rule.specs.Day.{code_size};
 ghost use Rattle.rule.specs.Isin.{is_isin, is_code, before, codes_right};
 ghost use Rattle.isin.specs.Code.{of_japan};
 ghost use Rattle.isin.specs.Summing.{Within, with_digit, with_capital};
@@ -102,7 +103,7 @@ pub fn stands_before(a: &[u64], b: &[u64]) -> bool
 
 // Is each of the codes one, and do they rise strictly? They stand one after the other.
 pub fn codes_right(cells: &[u64]) -> bool
-    ensures { result ≡ codes_right (grid cells.now 0 12 (length cells.now / 12) 12) }
+    ensures { result ≡ codes_right (grid cells.now 0 code_size (length cells.now / code_size) code_size) }
 {
     let (codes, _) = cells.as_chunks::<12>();
     codes.iter().all(|code| is_code(code)) && codes.is_sorted_by(|a, b| stands_before(a, b))

@@ -245,10 +245,13 @@ module _ (n m : ℕ) (codes terms receipts pairs b : List ℕ) where
               terms_size = l.terms_size;
               receipts_size = l.receipts_size;
               pairs_size = l.pairs_size;
-              codes_right = c;
-              terms_fit = t;
-              receipts_fit = r;
-              pairs_fit = p;
+              given = record {
+                sizes = l.sizes;
+                codes = c;
+                terms = t;
+                receipts = r;
+                pairs = p;
+              };
             }
 
             fits : x ≡ stored (zeros book_length) (opened (given_of n m codes terms receipts pairs))
@@ -263,12 +266,12 @@ module _ (n m : ℕ) (codes terms receipts pairs b : List ℕ) where
   wrong-sizes e = search (answers, rules) depth 12
 
   module _ (s : sizes_fit n m ≡ true) where
-    pub wrong-codes : length codes ≢ 12 * m → ◌≡◌ {A = Reply × List ℕ} (refused 1, b) (open_of n m codes terms receipts pairs b)
+    pub wrong-codes : length codes ≢ code_size * m → ◌≡◌ {A = Reply × List ℕ} (refused 1, b) (open_of n m codes terms receipts pairs b)
     unfolding open_of open_checks
     wrong-codes e = search (answers, rules) depth 12
 
     module _ (c : length codes ≡ code_size * m) where
-      pub wrong-terms : length terms ≢ 6 * m → ◌≡◌ {A = Reply × List ℕ} (refused 1, b) (open_of n m codes terms receipts pairs b)
+      pub wrong-terms : length terms ≢ term_size * m → ◌≡◌ {A = Reply × List ℕ} (refused 1, b) (open_of n m codes terms receipts pairs b)
       unfolding open_of open_checks
       wrong-terms e = search (answers, rules) depth 12
 

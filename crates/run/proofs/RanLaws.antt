@@ -19,7 +19,7 @@ use Rattle.run_match.specs.Filled.{issue_rows, book_terms, book_marks}
 use Rattle.rule.specs.Day.{Day, mark, terms_of}
 use Rattle.rule.specs.Sound.{all_terms_fit}
 use Rattle.rule.specs.Run.{Allocation, used, allocations, ran, covered_from, covered_to, covered_pair, lots_from, lots_to, match_list, line_list, lines_from}
-use Rattle.rule.specs.Layout.{book_length, positions_at, notices_at, today_at, tally_at, view, stored, signed, signed_rows, tables_of, position_cell, lots_cell, mark_cell, most_participants, most_issues, lots_size, lots_row, mark_square}
+use Rattle.rule.specs.Layout.{row_cell, book_length, positions_at, notices_at, today_at, tally_at, view, stored, signed, signed_rows, tables_of, position_cell, lots_cell, mark_cell, most_participants, most_issues, lots_size, lots_row, mark_square}
 use Rattle.rule.proofs.BookLaws.{SoundBook}
 use Rattle.rule.proofs.LayoutLaws.{Shaped, Holds, view-shaped, view-holds, signed-cell, given-kept, stored_is, outside-sizes, outside-position, outside-notice, outside-pair, outside-tally}
 use Rattle.rule.proofs.RunLaws.{Runnable}
@@ -61,7 +61,7 @@ module _ (b draw : List ℕ) (stock : Stock) (t₀ : Lists) (h : BasketsAsk b dr
   nothing-done = record {
     booked = booked-none b h.start.book;
     places = refl;
-    gone = λ d i x v. get_or-zeros lots_size (32 * d + i);
+    gone = λ d i x v. get_or-zeros lots_size (row_cell d i);
     match_size = refl;
     entries = sym (over_none t₀.matches.now 0);
     line_size = refl;
