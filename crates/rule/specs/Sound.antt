@@ -60,28 +60,34 @@ trade_limit = 10000
 -- "runs done are at most 3, .. notice and trade limits hold"
 abbrev pub limit_tests : Day → List Bool
 limit_tests y =
-    leb y.state.runs 3
-    ∷ at_most notice_limit y.given.participants y.given.issues y.state.notices
-    ∷ leb y.state.trades trade_limit
+    let n : ℕ = y.given.participants in
+    let m : ℕ = y.given.issues in
+    let s : State = y.state in
+    leb s.runs 3
+    ∷ at_most notice_limit n m s.notices
+    ∷ leb s.trades trade_limit
     ∷ []
 
 -- ".. all opening ranges, codes .. hold", "pair marks are 0 or 1 with none on oneself": what opening brought, yesterday's marks with it
 abbrev pub given_tests : Given → List Bool
 given_tests g =
-    sizes_fit g.participants g.issues
+    let n : ℕ = g.participants in
+    let m : ℕ = g.issues in
+    sizes_fit n m
     ∷ codes_right g.codes
-    ∷ all_terms_fit g.issues g.terms g.marks
-    ∷ receipts_fit g.participants g.issues g.receipts
-    ∷ pairs_fit g.participants g.pairs
+    ∷ all_terms_fit m g.terms g.marks
+    ∷ receipts_fit n m g.receipts
+    ∷ pairs_fit n g.pairs
     ∷ []
 
 -- "positions are within 10^13 and sum to zero per basket, a basket with a position has an unmarked issue"
 abbrev pub position_tests : Day → List Bool
 position_tests y =
     let g : Given = y.given in
+    let n : ℕ = g.participants in
     let s : State = y.state in
-    at_most position_limit baskets g.participants s.owed
-    ∷ at_most position_limit baskets g.participants s.due
+    at_most position_limit baskets n s.owed
+    ∷ at_most position_limit baskets n s.due
     ∷ all_below baskets (λ k. eqb (sum (row s.owed k)) (sum (row s.due k)))
     ∷ all_below baskets (λ k. eqb (sum (row s.owed k) + sum (row s.due k)) 0 || tradable k g.terms g.marks)
     ∷ []
@@ -89,8 +95,11 @@ position_tests y =
 -- "a tally is within 10^11 × runs done"
 abbrev pub tally_tests : Day → List Bool
 tally_tests y =
-    at_most (tally_limit * y.state.runs) y.given.participants y.given.issues y.state.delivered
-    ∷ at_most (tally_limit * y.state.runs) y.given.participants y.given.issues y.state.received
+    let n : ℕ = y.given.participants in
+    let m : ℕ = y.given.issues in
+    let s : State = y.state in
+    at_most (tally_limit * s.runs) n m s.delivered
+    ∷ at_most (tally_limit * s.runs) n m s.received
     ∷ []
 
 -- "pair marks are 0 or 1 with none on oneself": today's
@@ -101,8 +110,9 @@ today_tests y = pairs_fit y.given.participants y.state.today ∷ []
 abbrev pub end_tests : Day → List Bool
 end_tests y =
     let n : ℕ = y.given.participants in
+    let m : ℕ = y.given.issues in
     let s : State = y.state in
-    (ltb s.runs 3 || (at_most 0 baskets n s.owed && at_most 0 baskets n s.due && at_most 0 n y.given.issues s.notices))
+    (ltb s.runs 3 || (at_most 0 baskets n s.owed && at_most 0 baskets n s.due && at_most 0 n m s.notices))
     ∷ []
 
 abbrev pub sound_tests : Day → List (List Bool)
