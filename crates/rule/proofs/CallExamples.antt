@@ -7,7 +7,7 @@ use Rattle.lists.specs.Tables.{up_to, zeros}
 use Rattle.lists.specs.Folds.{foldl}
 use Rattle.rule.specs.Day.{Day}
 use Rattle.rule.specs.Calls.{Reply, accepted, refused, each_once}
-use Rattle.rule.specs.WorkedDays.{code0, wrong_code, terms}
+use Rattle.rule.specs.WorkedIssues.{code0, wrong_code, terms}
 use Rattle.rule.proofs.DayCalls.{open_day, trade_day, notice_day, run_day, close_day}
 use Rattle.rule.proofs.ExampleDays.{no_day, open_with, outcome, sale, plain_sale}
 use Rattle.rule.proofs.WholeRule.{whole_rule}

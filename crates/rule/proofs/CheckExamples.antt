@@ -9,7 +9,7 @@ use Rattle.lists.specs.Folds.{joined}
 use Rattle.rule.specs.Day.{Day}
 use Rattle.rule.specs.Calls.{Reply, accepted, counts, refused, open_checks, run_checks, close_checks}
 use Rattle.rule.specs.Layout.{book_length, open_of}
-use Rattle.rule.specs.WorkedDays.{wrong_code}
+use Rattle.rule.specs.WorkedIssues.{wrong_code}
 use Rattle.rule.proofs.DayCalls.{open_day, trade_day, notice_day, run_day, close_day}
 use Rattle.rule.proofs.ExampleDays.{no_day, codes, issue, open_issues, after_runs}
 use Rattle.rule.proofs.WholeRule.{whole_rule, book_rule}

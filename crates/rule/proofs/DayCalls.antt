@@ -11,7 +11,7 @@ use Rattle.rule.specs.Run.{Allocation, allocations, ran, match_list, line_list}
 use Rattle.rule.specs.Sound.{sound}
 use Rattle.rule.specs.Calls.{Reply, accepted, answer, open_checks, refusal, trade_checks, notice_checks, most_matches, most_lines, run_checks, run_reply, close_checks, tomorrow_receipts, tomorrow_pairs}
 use Rattle.rule.specs.Entries.{match_of, line_of, match_size, line_size}
-use Rattle.rule.specs.Claims.{Call, trade, notice, run, close, Event}
+use Rattle.rule.specs.History.{Call, trade, notice, run, close, Event}
 
 unfoldable pub open_day : Day → ℕ → ℕ → List ℕ → List ℕ → List ℕ → List ℕ → Reply × Day
 open_day old n m codes terms receipts pairs =

@@ -7,7 +7,7 @@ use Rattle.lists.specs.Folds.{foldl, joined}
 use Rattle.rule.specs.Isin.{check_digit}
 use Rattle.rule.specs.Day.{Day, baskets, given_of, opened}
 use Rattle.rule.specs.Calls.{Reply}
-use Rattle.rule.specs.WorkedDays.{code0, code1, terms}
+use Rattle.rule.specs.WorkedIssues.{code0, code1, terms}
 use Rattle.rule.proofs.DayCalls.{open_day, trade_day, notice_day, run_day}
 
 -- the day that stands before the opening

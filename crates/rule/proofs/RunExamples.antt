@@ -6,7 +6,7 @@ use lib.ListN.{take, drop}
 use Rattle.lists.specs.Tables.{zeros, zero_rows, row}
 use Rattle.rule.specs.Day.{State, Day}
 use Rattle.rule.specs.Calls.{Reply, accepted, counts}
-use Rattle.rule.specs.WorkedDays.{terms}
+use Rattle.rule.specs.WorkedIssues.{terms}
 use Rattle.rule.proofs.DayCalls.{trade_day, notice_day, run_day, close_day}
 use Rattle.rule.proofs.ExampleDays.{Handed, open_with, outcome, sale, issue, open_pairs, open_issues, after_runs}
 use Rattle.rule.proofs.WholeRule.{whole_rule}

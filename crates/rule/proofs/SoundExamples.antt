@@ -10,7 +10,7 @@ use Rattle.lists.specs.Folds.{joined}
 use Rattle.rule.specs.Day.{State, Day, given_of, opened}
 use Rattle.rule.specs.Sound.{sound}
 use Rattle.rule.specs.Layout.{terms_at, book_length, sound_book}
-use Rattle.rule.specs.WorkedDays.{wrong_code}
+use Rattle.rule.specs.WorkedIssues.{wrong_code}
 use Rattle.rule.proofs.ExampleDays.{on_book, codes, issue, open_issues}
 use Rattle.rule.proofs.WholeRule.{book_rule}
 

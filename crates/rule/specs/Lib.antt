@@ -11,5 +11,5 @@ pub mod Run
 pub mod Sound
 pub mod Calls
 pub mod Layout
-pub mod Claims
-pub mod WorkedDays
+pub mod History
+pub mod WorkedIssues

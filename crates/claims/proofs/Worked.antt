@@ -8,10 +8,11 @@ use Rattle.rule.specs.Day.{Day, baskets}
 use Rattle.rule.specs.Calls.{Reply}
 use Rattle.rule.specs.Layout.{view}
 use Rattle.rule.specs.Entries.{MatchEntry, LineEntry, match_of, line_of}
-use Rattle.rule.specs.Claims.{Call}
-use Rattle.rule.specs.WorkedDays.{code0, code1, blank, match_places, line_places, Outcome, outcome, parties, WorkedDays}
+use Rattle.rule.specs.History.{Call}
+use Rattle.rule.specs.WorkedIssues.{code0, code1}
+use Rattle.claims.specs.WorkedDays.{blank, match_places, line_places, Outcome, outcome, parties, WorkedDays}
 use Rattle.rule.proofs.DayCalls.{open_day, run_within, day_history}
-use Rattle.rule.proofs.ViewedLaws.{open-viewed, run-viewed, history-viewed, zeros-read}
+use Rattle.claims.proofs.ViewedLaws.{open-viewed, run-viewed, history-viewed, zeros-read}
 use Rattle.rule.proofs.WholeRule.{whole_rule}
 
 -- the same on tables

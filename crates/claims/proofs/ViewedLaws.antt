@@ -21,11 +21,12 @@ use Rattle.rule.specs.Sound.{sound}
 use Rattle.rule.specs.Calls.{Reply, accepted, refused, answer, open_checks, refusal, trade_checks, notice_checks, run_checks, run_reply, close_checks, tomorrow_receipts, tomorrow_pairs}
 use Rattle.rule.specs.Layout.{book_length, view, stored, book_fits, sound_book, open_of, trade_of, notice_of, run_of, close_of}
 use Rattle.rule.specs.Entries.{MatchEntry, LineEntry, match_of, line_of}
-use Rattle.rule.specs.Claims.{Words, matches_of, lines_of, Call, trade, notice, run, close, Event, History, next, history}
+use Rattle.rule.specs.History.{matches_of, lines_of, Call, trade, notice, run, close, Event, History, next, history}
+use Rattle.claims.specs.Claims.{Words}
 use Rattle.rule.proofs.CallLaws.{opening-sound, trade-sound, notice-sound}
 use Rattle.rule.proofs.RunCallLaws.{RunLeaves, run_sound}
-use Rattle.rule.proofs.HandedLaws.{entries, matches-are, lines_are}
-use Rattle.rule.proofs.WordLaws.{open-words, trade-words, notice-words, run-words}
+use Rattle.claims.proofs.HandedLaws.{entries, matches-are, lines_are}
+use Rattle.claims.proofs.WordLaws.{open-words, trade-words, notice-words, run-words}
 use Rattle.rule.proofs.DayCalls.{open_day, trade_day, notice_day, run_within, close_within, DayHistory, next_day, day_history}
 
 -- a book of the right length that is read as day y

@@ -20,15 +20,16 @@ use Rattle.rule.specs.Run.{Allocation, allocable_of, allocations, covered_from, 
 use Rattle.rule.specs.Calls.{Reply, accepted, counts, refused, answer, refusal, trade_checks, distinct, notice_checks, run_checks, run_reply, close_checks}
 use Rattle.rule.specs.Layout.{view, sound_book, trade_of, notice_of, run_of, close_of}
 use Rattle.rule.specs.Entries.{MatchEntry, LineEntry, line_of}
-use Rattle.rule.specs.Claims.{Words, Call, trade, notice, run, close, Event, sold_in, bought_in, delivered_in, received_in, lots_by, forced_by, is_run, named, notified_after}
+use Rattle.rule.specs.History.{Call, trade, notice, run, close, Event}
+use Rattle.claims.specs.Claims.{Words, sold_in, bought_in, delivered_in, received_in, lots_by, forced_by, is_run, named, notified_after}
 use Rattle.rule.proofs.LayoutLaws.{Shaped, view-shaped}
 use Rattle.rule.proofs.BookLaws.{SoundBook}
 use Rattle.rule.proofs.TradeLaws.{Tradeable, owed2, due2, traded-owed, traded-due, owed-seller, due-seller, owed-buyer, due-buyer, owed-other, due-other, which}
 use Rattle.rule.proofs.NoticeLaws.{Noticeable}
-use Rattle.rule.proofs.ClaimLaws.{named-is}
+use Rattle.claims.proofs.ClaimLaws.{named-is}
 use Rattle.rule.proofs.OpenLaws.{zero-cell}
 use Rattle.rule.proofs.AnswerLaws.{granted}
-use Rattle.rule.proofs.HandedLaws.{entry_of, delivered-is, received_is, forced-none, no-forced, no-lots-from, no-line-lots, lots_are, lots-by}
+use Rattle.claims.proofs.HandedLaws.{entry_of, delivered-is, received_is, forced-none, no-forced, no-lots-from, no-line-lots, lots_are, lots-by}
 use Rattle.rule.proofs.RunLaws.{Runnable, Allocated, allocated, covered-from, covered-to}
 use Rattle.rule.proofs.RunLots.{used-most}
 use Rattle.rule.proofs.RunLists.{Line, line-right, all-issues}

@@ -25,7 +25,7 @@ use Rattle.rule.proofs.OpenLaws.{Openable}
 use Rattle.rule.proofs.CallLaws.{open-passed}
 use Rattle.rule.proofs.AnswerLaws.{granted}
 use Rattle.lists.proofs.AppendLaws.{joined_length}
-use Rattle.rule.proofs.JoinLaws.{joined-get, joined-grid, shape-rows}
+use Rattle.claims.proofs.JoinLaws.{joined-get, joined-grid, shape-rows}
 
 -- ---- with no row's condition a call is accepted
 

@@ -9,14 +9,15 @@ use Rattle.rule.specs.Day.{given_of}
 use Rattle.rule.specs.Run.{Allocation, allocations, line_list}
 use Rattle.rule.specs.Calls.{Reply, accepted, open_checks, refusal, trade_checks, notice_checks, run_checks, run_reply, close_checks}
 use Rattle.rule.specs.Layout.{view, book_fits, sound_book, open_of, trade_of, notice_of, run_of, close_of}
-use Rattle.rule.specs.Claims.{Counted, Demand1, History, history, Demand2, Demand3, Soundness, Following}
-use Rattle.rule.proofs.RefusalLaws.{by-table}
+use Rattle.rule.specs.History.{History, history}
+use Rattle.claims.specs.Claims.{Counted, Demand1, Demand2, Demand3, Soundness, Following}
+use Rattle.claims.proofs.RefusalLaws.{by-table}
 use Rattle.rule.proofs.BookLaws.{sound-book}
 use Rattle.rule.proofs.RunCallLaws.{RunLeaves, run_sound}
-use Rattle.rule.proofs.HandedRight.{handed-right}
-use Rattle.rule.proofs.HandedLaws.{matches-are, lines_are}
-use Rattle.rule.proofs.HistoryLaws.{Kept, kept, holds_kept, sound-kept}
-use Rattle.rule.proofs.FollowLaws.{Follows, follows}
+use Rattle.claims.proofs.HandedRight.{handed-right}
+use Rattle.claims.proofs.HandedLaws.{matches-are, lines_are}
+use Rattle.claims.proofs.HistoryLaws.{Kept, kept, holds_kept, sound-kept}
+use Rattle.claims.proofs.FollowLaws.{Follows, follows}
 
 pub demand-one : Demand1
 unfolding member refusal open_of open_checks trade_of trade_checks notice_of notice_checks run_of run_checks run_reply close_of close_checks

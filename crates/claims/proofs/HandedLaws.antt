@@ -19,10 +19,11 @@ use Rattle.rule.specs.Filling.{all_lots}
 use Rattle.rule.specs.Run.{Allocation, allocations, used, match_entry, match_list, line_list, covered_from, covered_to, lots_from}
 use Rattle.rule.specs.Calls.{counts}
 use Rattle.rule.specs.Entries.{MatchEntry, LineEntry, match_of, line_of, match_size, line_size}
-use Rattle.rule.specs.Claims.{Event, matches_of, lines_of, no_match_entry, delivered_in, received_in, lots_by, forced_by}
+use Rattle.rule.specs.History.{Event, matches_of, lines_of}
+use Rattle.claims.specs.Claims.{no_match_entry, delivered_in, received_in, lots_by, forced_by}
 use Rattle.rule.specs.Layout.{view, run_of}
 use Rattle.rule.proofs.SumLaws.{eqb-flip, total-map, total-same, total-index, total-take, total-below, total_kept}
-use Rattle.rule.proofs.JoinLaws.{joined-over}
+use Rattle.claims.proofs.JoinLaws.{joined-over}
 use Rattle.rule.proofs.RunLists.{no_allocation, length-match_list, match-sizes, lots_if, lines-total, few_lines, line-sizes}
 use Rattle.rule.proofs.RunLaws.{few-allocations}
 use Rattle.rule.proofs.RunCallLaws.{RunLeaves}

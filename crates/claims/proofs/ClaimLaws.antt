@@ -24,7 +24,7 @@ use Rattle.rule.specs.Allocable.{unmarked, allocable, Marks}
 use Rattle.rule.specs.Filling.{shortage, covered}
 use Rattle.rule.specs.Day.{notice_row}
 use Rattle.rule.specs.Calls.{distinct}
-use Rattle.rule.specs.Claims.{quantity, Short, named}
+use Rattle.claims.specs.Claims.{quantity, Short, named}
 
 -- ---- the allocable quantity
 

@@ -8,7 +8,8 @@ use Rattle.rule.specs.Allocable.{Marks}
 use Rattle.rule.specs.Day.{Day}
 use Rattle.rule.specs.Calls.{Reply, accepted, counts, refused}
 use Rattle.rule.specs.Entries.{MatchEntry, LineEntry, match_of, line_of}
-use Rattle.rule.specs.Claims.{matches_of, lines_of, lots_in, lots_by, forced_by, quantity, used_before, usable_in, Call, trade, notice, run, close, Event, is_accepted, sold_in, bought_in, delivered_in, received_in, is_run, runs_in, named, notified_after, notified, allocable_then}
+use Rattle.rule.specs.History.{matches_of, lines_of, Call, trade, notice, run, close, Event}
+use Rattle.claims.specs.Claims.{lots_in, lots_by, forced_by, quantity, used_before, usable_in, is_accepted, sold_in, bought_in, delivered_in, received_in, is_run, runs_in, named, notified_after, notified, allocable_then}
 use Rattle.rule.proofs.DayCalls.{notice_day}
 use Rattle.rule.proofs.ExampleDays.{issue, open_issues}
 use Rattle.rule.proofs.WholeRule.{whole_rule}

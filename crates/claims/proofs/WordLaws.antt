@@ -25,7 +25,7 @@ use Rattle.rule.specs.Run.{allocations, ran}
 use Rattle.rule.specs.Sound.{notice_limit, terms_fit, all_terms_fit, receipts_fit, marks_fit}
 use Rattle.rule.specs.Calls.{accepted, counts, open_checks, refusal, trade_checks, notice_checks}
 use Rattle.rule.specs.Layout.{most_issues, pairs_at, today_at, book_length, signed, signed_rows, terms_row, terms_rows, cube_rows, tables_of, view, stored, book_fits, sound_book, open_of, trade_of, notice_of, run_of, mark_square, most_participants}
-use Rattle.rule.specs.Claims.{Words}
+use Rattle.claims.specs.Claims.{Words}
 use Rattle.rule.proofs.SoundLaws.{Most, most-of, Sizes, sizes-of, SoundDay}
 use Rattle.rule.proofs.LayoutLaws.{of-tables, Shaped, view-shaped, terms-at, terms-length}
 use Rattle.rule.proofs.BookLaws.{SoundBook}

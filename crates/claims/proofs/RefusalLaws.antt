@@ -8,7 +8,7 @@ use mathlib.Core.List.{List, [], ◌∷◌}
 use Rattle.lists.specs.Tests.{member, first}
 use Rattle.lists.proofs.TestLaws.{pick-cases, and_left, and_right}
 use Rattle.rule.specs.Calls.{Reply, answer}
-use Rattle.rule.specs.Claims.{RefusedWith}
+use Rattle.claims.specs.Claims.{RefusedWith}
 
 -- every row of the table has one of the numbers
 abbrev amongst : List ℕ → List (ℕ × Bool) → Bool

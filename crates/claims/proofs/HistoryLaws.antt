@@ -16,20 +16,21 @@ use Rattle.rule.specs.Day.{Given, Day, given_of, opened, traded, noticed}
 use Rattle.rule.specs.Run.{allocable_of, allocations, line_list}
 use Rattle.rule.specs.Calls.{Reply, accepted, counts, refused, run_reply}
 use Rattle.rule.specs.Layout.{plus, minus, signed, view, sound_book, open_of, trade_of, notice_of, run_of, close_of, position_cell}
-use Rattle.rule.specs.Claims.{Words, Call, trade, notice, run, close, Event, History, next, history, matches_of, lines_of, sold_in, bought_in, delivered_in, received_in, lots_by, forced_by, is_run, runs_in, notified_after, notified, allocable_then, standing, EventHolds, HistoryHolds, StaysSound}
-use Rattle.rule.proofs.SplitLaws.{Within, last-split}
+use Rattle.rule.specs.History.{Call, trade, notice, run, close, Event, History, next, history, matches_of, lines_of}
+use Rattle.claims.specs.Claims.{Words, sold_in, bought_in, delivered_in, received_in, lots_by, forced_by, is_run, runs_in, notified_after, notified, allocable_then, standing, EventHolds, HistoryHolds, StaysSound}
+use Rattle.claims.proofs.SplitLaws.{Within, last-split}
 use Rattle.rule.proofs.LayoutLaws.{signed-split}
 use Rattle.rule.proofs.SoundLaws.{Zeroed}
 use Rattle.rule.proofs.BookLaws.{SoundBook, sound-book, view-owed, view-due, row-owed, row-due}
-use Rattle.rule.proofs.ClaimLaws.{quantity-is}
+use Rattle.claims.proofs.ClaimLaws.{quantity-is}
 use Rattle.rule.proofs.OpenLaws.{zero-cell}
 use Rattle.rule.proofs.CallLaws.{opening-sound, trade-passed, trade-sound, notice-passed, notice-sound}
 use Rattle.rule.proofs.TradeLaws.{Tradeable}
 use Rattle.rule.proofs.NoticeLaws.{Noticeable}
-use Rattle.rule.proofs.HandedLaws.{matches-are, lines_are}
+use Rattle.claims.proofs.HandedLaws.{matches-are, lines_are}
 use Rattle.rule.proofs.RunCallLaws.{RunLeaves, run_sound}
-use Rattle.rule.proofs.StepLaws.{event, Step, either_way, refused-step, trade-answered, notice-answered, run-answered, close-answered, closed-step, traded-step, noticed-step, ran-step}
-use Rattle.rule.proofs.WordLaws.{open-words, trade-words, notice-words, run-words}
+use Rattle.claims.proofs.StepLaws.{event, Step, either_way, refused-step, trade-answered, notice-answered, run-answered, close-answered, closed-step, traded-step, noticed-step, ran-step}
+use Rattle.claims.proofs.WordLaws.{open-words, trade-words, notice-words, run-words}
 
 -- ---- what every call keeps
 

@@ -8,22 +8,8 @@ use Rattle.rule.specs.Day.{baskets, terms_of}
 use Rattle.rule.specs.Calls.{Reply, accepted, counts, refused, most_matches, most_lines}
 use Rattle.rule.specs.Layout.{book_length, open_of, run_of}
 use Rattle.rule.specs.Entries.{MatchEntry, LineEntry, match_of, line_of, match_size, line_size}
-use Rattle.rule.specs.Claims.{matches_of, lines_of, Call, trade, notice, run, history}
-
--- "issues 0 and 1 are JP0000000018 and JP0000000026"
-abbrev pub code0 : List ℕ
-code0 = 74 ∷ 80 ∷ 48 ∷ 48 ∷ 48 ∷ 48 ∷ 48 ∷ 48 ∷ 48 ∷ 48 ∷ 49 ∷ 56 ∷ []
-
-abbrev pub code1 : List ℕ
-code1 = 74 ∷ 80 ∷ 48 ∷ 48 ∷ 48 ∷ 48 ∷ 48 ∷ 48 ∷ 48 ∷ 48 ∷ 50 ∷ 54 ∷ []
-
--- JP0000000019
-abbrev pub wrong_code : List ℕ
-wrong_code = 74 ∷ 80 ∷ 48 ∷ 48 ∷ 48 ∷ 48 ∷ 48 ∷ 48 ∷ 48 ∷ 48 ∷ 49 ∷ 57 ∷ []
-
--- "kind 2, no marks"
-abbrev pub terms : ℕ → ℕ → ℕ → List ℕ
-terms price coupon days = 2 ∷ price ∷ coupon ∷ days ∷ 0 ∷ 0 ∷ []
+use Rattle.rule.specs.WorkedIssues.{code0, code1, wrong_code, terms}
+use Rattle.rule.specs.History.{matches_of, lines_of, Call, trade, notice, run, history}
 
 -- the book that is lent to the opening, and the lists that are lent to a run
 abbrev pub blank : List ℕ
