@@ -79,6 +79,8 @@ record Fillings : Type 0 where
   -- "n × coupon × days ÷ 730 rounded down once": 365 × 2 ÷ 730 is a yen, and so is 365 × 3 ÷ 730
   interest : map (λ d. value (record { kind = 2; price = 10000; coupon = 365; days = d }) 1) (1 ∷ 2 ∷ 3 ∷ 4 ∷ [])
       ≡ 50000 ∷ 50001 ∷ 50001 ∷ 50002 ∷ []
+  -- the first row of the worked days: "interest on 7 lots 0, on 8 lots 1"
+  interest_of_lots : map (value (accruing 10000)) (7 ∷ 8 ∷ []) ≡ 350000 ∷ 400001 ∷ []
   -- "Kind 6 is valued on face too", and a bill's coupon counts as any
   kinds_alike : map (λ k. value (record { kind = k; price = 10000; coupon = 100; days = 1 }) 8) (0 ∷ 1 ∷ 2 ∷ 3 ∷ 4 ∷ 5 ∷ 6 ∷ [])
       ≡ 400001 ∷ 400001 ∷ 400001 ∷ 400001 ∷ 400001 ∷ 400001 ∷ 400001 ∷ []
@@ -110,6 +112,7 @@ fillings = record {
   one_rounding = refl;
   forced_rounding = refl;
   interest = refl;
+  interest_of_lots = refl;
   kinds_alike = refl;
   carried = refl;
   forced_too = refl;

@@ -146,6 +146,8 @@ record Runs : Type 0 where
   pair_ties : (pair_by_notified 5 5).lines ≡ (0 ∷ 0 ∷ 2 ∷ []) ∷ []
   -- "not larger allocable"
   pair_not_allocable : pair_by_smaller.lines ≡ (0 ∷ 0 ∷ 1 ∷ []) ∷ (0 ∷ 1 ∷ 1 ∷ []) ∷ []
+  -- nor for a drawn one: issue 1 with 9 notified, of which 1 is scheduled, before issue 0 with 5
+  drawn_not_allocable : (sale (terms 10000 0 0) (5 ∷ 9 ∷ []) (5 ∷ 1 ∷ []) 120000).lines ≡ (0 ∷ 0 ∷ 2 ∷ []) ∷ (0 ∷ 1 ∷ 1 ∷ []) ∷ []
   -- "Its target is the amount rounded down to a multiple of 5,000,000,000 yen": at 30,000 yen a lot one unit, of 3,000,000,000 yen, fits, where two
   -- fit the whole amount
   target : (sale (terms 6000 0 0) (200000 ∷ 50000 ∷ []) (200000 ∷ 50000 ∷ []) 6000000000).lines ≡ (0 ∷ 0 ∷ 150000 ∷ []) ∷ (0 ∷ 1 ∷ 50000 ∷ []) ∷ []
@@ -207,6 +209,7 @@ runs = record {
   pair_notified = refl;
   pair_ties = refl;
   pair_not_allocable = refl;
+  drawn_not_allocable = refl;
   target = refl;
   a_first = refl;
   gone = refl;
