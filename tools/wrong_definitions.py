@@ -1,14 +1,14 @@
 #!/usr/bin/env python3
-"""Puts each wrong definition of tools/wrong_definitions.txt into crates/rule or crates/lists, in a copy, and tells what refuses it.
+"""Puts each wrong definition of tools/wrong_definitions.txt into crates/rule, lists or claims, in a copy, and tells what refuses it.
 
 wrong_definitions.py [--examples] [--workers N] [NAME ..]
 
 A line of the list is `name: file | old | new`, with more pairs of old and new where one does not do: the first place of `old` in
-crates/rule/specs/<file>.antt (or crates/lists/specs, for `lists/<file>`) becomes `new`; ¶ stands for the end of a line, ǁ for ||. Where `new` says `same:` in front, the definition is no wrong one: it
+crates/rule/specs/<file>.antt (or crates/lists/specs, for `lists/<file>`, and so for claims) becomes `new`; ¶ stands for the end of a line, ǁ for ||. Where `new` says `same:` in front, the definition is no wrong one: it
 gives the same answers on every day, and is there to say so. A name that `new` needs is added to the file's imports.
 
 With --examples the laws and demands are left out of the copy, and so the worked days, which rest on laws: what remains to refuse a definition
-is the examples, by computation. Without it all of crates/rule is proved.
+is the examples, by computation. Without it all of crates/rule is proved, and then crates/claims, which is not reached where rule refuses.
 
 Writes a line for each: its name, what came of it, the files in which something was not proved, the first error. Ends with 1 if one that is
 not `same:` was admitted, or if one is no definition at all.
@@ -39,22 +39,22 @@ def wrong_definitions():
 
 def copy(to, examples):
     os.makedirs(f"{to}/crates")
-    for crate in ("lists", "rule"):
+    for crate in ("lists", "rule", "claims"):
         shutil.copytree(f"{ROOT}/crates/{crate}", f"{to}/crates/{crate}", ignore=shutil.ignore_patterns("must-fail", "target"))
     with open(f"{to}/crates.txt", "w") as file:
-        file.write("lists:\nrule: lists\n")
-    if examples:
-        proofs = f"{to}/crates/rule/proofs"
+        file.write("lists:\nrule: lists\nclaims: rule lists\n")
+    for crate in ("rule", "claims") if examples else ():
+        proofs = f"{to}/crates/{crate}/proofs"
         kept = {f[:-5] for f in os.listdir(proofs) if f.endswith("Examples.antt")} | EXAMPLES
         for f in os.listdir(proofs):
             if f.endswith(".antt") and f[:-5] not in kept | {"Lib"}:
                 os.remove(f"{proofs}/{f}")
         with open(f"{proofs}/Lib.antt", "w") as file:
-            file.writelines(f"pub mod {module}\n" for module in sorted(kept))
+            file.writelines(f"pub mod {module}\n" for module in sorted(kept) if os.path.exists(f"{proofs}/{module}.antt"))
 
 
 def check(at):
-    run = subprocess.run(["rt", "check"], cwd=f"{at}/crates/rule", capture_output=True, text=True)
+    run = subprocess.run(["rt", "check"], cwd=f"{at}/crates/claims", capture_output=True, text=True)
     return run.stdout + run.stderr
 
 
