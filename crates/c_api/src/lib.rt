@@ -4,7 +4,7 @@
 ghost use Rattle.std.specs.Prelude.{◌≡◌, ◌≤◌};
 ghost use Rattle.rule.specs.Layout.{book_length, open_of, trade_of, notice_of, run_of, close_of};
 ghost use Rattle.reply.specs.Answers.{told, told_run};
-ghost use Rattle.c_api.specs.Returned.{returned, for_c, Fits};
+ghost use Rattle.c_api.specs.Returned.{returned, for_c, CountsFit};
 
 use quantities::Yen;
 use reply::{Counts, Refusal};
@@ -12,7 +12,7 @@ use reply::{Counts, Refusal};
 // A run's number: 2^32 + matches × 2^16 + lines.
 const RAN: u64 = 4294967296;
 
-const MATCH: u64 = 65536;
+const PER_MATCH: u64 = 65536;
 
 fn returned(answer: Result<(), Refusal>) -> u64
     ensures { result ≡ returned (told answer) }
@@ -25,11 +25,11 @@ fn returned(answer: Result<(), Refusal>) -> u64
 
 // A run's is not the same function at another type: what is accepted has a number of its own, as `told_run` and `told` have it.
 fn returned_run(answer: Result<Counts, Refusal>) -> u64
-    requires { Fits (told_run answer) }
+    requires { CountsFit (told_run answer) }
     ensures { result ≡ returned (told_run answer) }
 {
     match answer {
-        Ok(counts) => RAN + counts.matches as u64 * MATCH + counts.lines as u64,
+        Ok(counts) => RAN + counts.matches as u64 * PER_MATCH + counts.lines as u64,
         Err(why) => u64::from(why),
     }
 }

@@ -16,7 +16,7 @@ use Rattle.lists.specs.Parts.{grid, over}
 use Rattle.lists.proofs.TestLaws.{pick_no, pick-cases, and_no}
 use Rattle.lists.proofs.FoldLaws.{total-cong, total-sum, total-zero, every_map}
 use Rattle.rule.specs.Filling.{all_lots}
-use Rattle.rule.specs.Run.{Allocation, allocations, used, match_entry, match_list, line_list, covered_from, covered_to, lots_from}
+use Rattle.rule.specs.Run.{entry_of, Allocation, allocations, used, match_entry, match_list, line_list, covered_from, covered_to, lots_from}
 use Rattle.rule.specs.Calls.{counts}
 use Rattle.rule.specs.Entries.{MatchEntry, LineEntry, match_of, line_of, match_size, line_size}
 use Rattle.rule.specs.History.{Event, matches_of, lines_of}
@@ -27,18 +27,6 @@ use Rattle.claims.proofs.JoinLaws.{joined-over}
 use Rattle.rule.proofs.RunLists.{no_allocation, length-match_list, match-sizes, lots_if, lines-total, few_lines, line-sizes}
 use Rattle.rule.proofs.RunLaws.{few-allocations}
 use Rattle.rule.proofs.RunCallLaws.{RunLeaves}
-
--- an allocation as it is read in the list of matches
-abbrev pub entry_of : Allocation → MatchEntry
-entry_of a = record {
-  basket = a.basket;
-  deliverer = a.match.deliverer;
-  receiver = a.match.receiver;
-  matched = a.match.amount;
-  covered = a.filled.covered;
-  forced = a.filled.forced;
-  forced_lots = a.filled.forced_lots;
-}
 
 pub entries : (done : List Allocation) → map match_of (match_list done) ≡ map entry_of done
 unfolding match_list match_entry

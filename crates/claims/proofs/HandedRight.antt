@@ -21,7 +21,7 @@ use Rattle.rule.specs.Value.{Terms, no_terms}
 use Rattle.rule.specs.Baskets.{within}
 use Rattle.rule.specs.Filling.{Filled, worth, all_lots, match_lots}
 use Rattle.rule.specs.Day.{Day}
-use Rattle.rule.specs.Run.{Allocation, used, allocable_of, allocations, line_list}
+use Rattle.rule.specs.Run.{entry_of, Allocation, used, allocable_of, allocations, line_list}
 use Rattle.rule.specs.Entries.{MatchEntry, LineEntry, line_of}
 use Rattle.claims.specs.Claims.{no_match_entry, no_line_entry, lots_in, used_before, usable_in, MatchHolds, RunHolds}
 use Rattle.lists.proofs.FoldLaws.{every-at}
@@ -30,7 +30,7 @@ use Rattle.rule.proofs.FilledLaws.{covered-all, Fewest}
 use Rattle.rule.proofs.RunLaws.{Runnable, Allocated, allocated, few-allocations, matched-from, matched_to}
 use Rattle.rule.proofs.RunLists.{no_allocation, Ordered, LineBefore, lines-ordered, lots_if, Line, few_lines, line-right, line-lots, all-issues}
 use Rattle.claims.proofs.UsableLaws.{Fills, Forced, usable_after, run-fills}
-use Rattle.claims.proofs.HandedLaws.{entry_of, used-before}
+use Rattle.claims.proofs.HandedLaws.{used-before}
 use Rattle.claims.proofs.ClaimLaws.{quantity-is, covered-short}
 
 -- a read that is not past the end does not depend on what one gives

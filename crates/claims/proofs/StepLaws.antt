@@ -16,7 +16,7 @@ use Rattle.lists.proofs.TestLaws.{and_left, and_right, pick-cases, first-no}
 use Rattle.lists.proofs.FoldLaws.{every_map}
 use Rattle.lists.proofs.TableLaws.{get_or-table}
 use Rattle.rule.specs.Day.{Day, notice_row, noticed, traded}
-use Rattle.rule.specs.Run.{Allocation, allocable_of, allocations, covered_from, covered_to, used, line_list, ran}
+use Rattle.rule.specs.Run.{entry_of, Allocation, allocable_of, allocations, covered_from, covered_to, used, line_list, ran}
 use Rattle.rule.specs.Calls.{Reply, accepted, counts, refused, answer, refusal, trade_checks, distinct, notice_checks, run_checks, run_reply, close_checks}
 use Rattle.rule.specs.Layout.{view, sound_book, trade_of, notice_of, run_of, close_of}
 use Rattle.rule.specs.Entries.{MatchEntry, LineEntry, line_of}
@@ -29,7 +29,7 @@ use Rattle.rule.proofs.NoticeLaws.{Noticeable}
 use Rattle.claims.proofs.ClaimLaws.{named-is}
 use Rattle.rule.proofs.OpenLaws.{zero-cell}
 use Rattle.rule.proofs.AnswerLaws.{granted}
-use Rattle.claims.proofs.HandedLaws.{entry_of, delivered-is, received_is, forced-none, no-forced, no-lots-from, no-line-lots, lots_are, lots-by}
+use Rattle.claims.proofs.HandedLaws.{delivered-is, received_is, forced-none, no-forced, no-lots-from, no-line-lots, lots_are, lots-by}
 use Rattle.rule.proofs.RunLaws.{Runnable, Allocated, allocated, covered-from, covered-to}
 use Rattle.rule.proofs.RunLots.{used-most}
 use Rattle.rule.proofs.RunLists.{Line, line-right, all-issues}

@@ -6,7 +6,7 @@ use Rattle.rule.specs.Layout.{trade_of, notice_of}
 use Rattle.reply.specs.Answers.{number_of}
 use Rattle.words.specs.Lines.{IsNumber}
 use Rattle.day_words.specs.Named.{AreEntries, IsLetter}
-use Rattle.opening_data.specs.Gathered.{opened}
+use Rattle.opening_data.specs.Gathered.{opening_of}
 use Rattle.opening_data.specs.declared.OpeningData.{OpeningData}
 use Rattle.day_lines.specs.declared.failure.Failure.{Failure}
 use Rattle.day_lines.specs.declared.failure.Failure.TheVariants.{Unread, Refused, Unwritten}
@@ -38,7 +38,7 @@ pub record Trades (words : List (List ℕ)) (old new : List ℕ) (reply : Reply)
 -- "open": no words
 pub record Opens (gathered : OpeningData) (words : List (List ℕ)) (old new : List ℕ) (reply : Reply) : Type 0 where
   pub parts : words ≡ []
-  pub called : (reply, new) ≡ opened gathered old
+  pub called : (reply, new) ≡ opening_of gathered old
 
 -- "notice PARTICIPANT ISSUE=LOTS ..", whose issues are named among some codes
 pub record Notices (words : List (List ℕ)) (old new : List ℕ) (reply : Reply) : Type 0 where

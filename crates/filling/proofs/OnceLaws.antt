@@ -15,7 +15,7 @@ use Rattle.lists.specs.Order.{ranked}
 use Rattle.lists.proofs.TestLaws.{pick-cases}
 use Rattle.lists.proofs.FoldLaws.{every-at, every-keep, total-keep-most}
 use Rattle.lists.proofs.OrderLaws.{total-sorted, ranked-below}
-use Rattle.filling.specs.Rows.{Named}
+use Rattle.filling.specs.Rows.{NamesOnce}
 
 -- how often p stands in a list
 abbrev times : ℕ → List ℕ → ℕ
@@ -49,7 +49,7 @@ one_place p (x ∷ xs) m (suc j) (suc k) h i d e = ap suc (one_place p xs (omega
 
 -- ---- for callers: what is kept of a ranking names issues of the day, none of them twice
 
-pub kept-named : (issues : ℕ) (key : ℕ → ℕ) (live : ℕ → Bool) → Named issues (keep live (ranked key issues))
+pub kept-named : (issues : ℕ) (key : ℕ → ℕ) (live : ℕ → Bool) → NamesOnce issues (keep live (ranked key issues))
 kept-named issues key live = record {
   inside = λ k h. every-at (λ i. i < issues) 0 kept (every-keep (λ i. i < issues) live (ranked key issues) (ranked-below key issues)) k h;
   once = λ j k h i q.

@@ -17,7 +17,7 @@ use Rattle.rule.specs.Value.{Terms, no_terms, value, fewest, most}
 use Rattle.rule.specs.Filling.{worth, Taken, nothing, lots_of, others, become, take_up_to, walk, fill_preferential, unit, target, take_units, first_pass, with_remainder, second_pass, fill_drawn, fill}
 use Rattle.rule.proofs.ValueLaws.{value-strict, most-keeps, most-greatest}
 use Rattle.rule.proofs.FillingLaws.{Priced, Good, Units as Whole, apart, worth-zeros, become-same, walk-good, walk-idle, pass-good}
-use Rattle.turns.specs.Turns.{besides, up_to, whole_units}
+use Rattle.turns.specs.Turns.{besides, lots_up_to, whole_units}
 use Rattle.turns.specs.Passes.{bound_of, next_of, Fresh}
 use Rattle.turns.specs.declared.Pass.{Pass}
 use Rattle.turns.specs.declared.Pass.TheVariants.{Units, Remainders, Rest}
@@ -144,7 +144,7 @@ module _ (ts : List Terms) (priced : Priced ts) (usable : List ℕ) (order : Lis
   }
 
   pub stands-third : (s : Taken) → Good ts may s → Stands ts usable order amount Rest s
-  unfolding up_to take_up_to
+  unfolding lots_up_to take_up_to
   stands-third s g = record {
     sized = g.sized;
     bounded = λ i. g.bounded i;
@@ -189,7 +189,7 @@ module _ (ts : List Terms) (priced : Priced ts) (usable : List ℕ) (order : Lis
     between-units s b i = omega (arith, b.above i, b.good.bounded i, first-units.whole i)
 
     stands-second : (s : Taken) → Between s → Stands ts usable order amount Remainders s
-    unfolding up_to take_up_to with_remainder
+    unfolding lots_up_to take_up_to with_remainder
     stands-second s b = record {
       sized = b.good.sized;
       bounded = λ i. omega (arith, between-units s b i, b.good.bounded i);

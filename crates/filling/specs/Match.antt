@@ -6,12 +6,14 @@ use Rattle.rule.specs.Layout.{most_issues}
 use Rattle.rule.specs.Filling.{worth, Filled, filled}
 use Rattle.value.specs.Quotes.{Quotes}
 use Rattle.value.specs.declared.Quote.{Quote}
-use Rattle.filling.specs.Rows.{Named}
+use Rattle.filling.specs.Rows.{NamesOnce}
 use Rattle.filling.specs.declared.Filling.{Filling}
+use Rattle.rule.specs.Sound.{notice_limit}
+use Rattle.value.specs.Range.{most_yen}
 
 -- the amount of a match
 pub record Coverable (amount : ℕ) : Type 0 where
-  pub amount_most : amount ≤ 10_000_000_000_000
+  pub amount_most : amount ≤ most_yen
 
 -- the match is filled alike in every order of the issues
 pub record Idle (runs all amount : ℕ) : Type 0 where
@@ -26,14 +28,14 @@ pub record Supplied (issues : List (List ℕ)) (quotes : List Quote) (notified u
   pub quotes_there : length usable ≤ length quotes
   pub notified_there : length notified ≡ length usable
   pub quoted : Quotes (map terms_of issues) quotes
-  pub usable_most : (i : ℕ) → i < length usable → get_or usable i 0 ≤ 200_000_000
-  pub named : Named (length usable) order
+  pub usable_most : (i : ℕ) → i < length usable → get_or usable i 0 ≤ notice_limit
+  pub named : NamesOnce (length usable) order
   pub all_is : all ≡ worth (map terms_of issues) usable
 
 -- all usable lots are worth less than the amount, and there is a row for them
 pub record Forcible (issues all amount places : ℕ) : Type 0 where
   pub below : all < amount
-  pub amount_most : amount ≤ 10_000_000_000_000
+  pub amount_most : amount ≤ most_yen
   pub row : places ≡ issues
 
 -- the code's answer is the rule's

@@ -9,6 +9,7 @@ use Rattle.turns.specs.Turns.{besides, Part}
 use Rattle.turns.specs.Passes.{next_of, Turnable}
 use Rattle.turns.specs.declared.Pass.{Pass}
 use Rattle.turns.specs.declared.Pass.TheVariants.{Units, Remainders, Rest}
+use Rattle.value.specs.Range.{most_yen}
 
 -- the passes of a match, in their order
 abbrev pub passes_of : Bool → List Pass
@@ -40,10 +41,10 @@ Stepped pass quotes lots usable i reached amount after r =
 
 -- an amount, and a row for the issues that has nothing yet
 pub record Asked (issues amount : ℕ) (lots : List ℕ) : Type 0 where
-  pub amount_most : amount ≤ 10_000_000_000_000
+  pub amount_most : amount ≤ most_yen
   pub empty : lots ≡ zeros issues
 
 -- an order names issues of the day, none of them twice
-pub record Named (issues : ℕ) (order : List ℕ) : Type 0 where
+pub record NamesOnce (issues : ℕ) (order : List ℕ) : Type 0 where
   pub inside : (k : ℕ) → k < length order → get_or order k 0 < issues
   pub once : (j k : ℕ) → j < length order → k < length order → get_or order j 0 ≡ get_or order k 0 → j ≡ k

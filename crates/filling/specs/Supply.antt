@@ -6,9 +6,9 @@ use Rattle.rule.specs.Filling.{forced_issue}
 use Rattle.filling.specs.declared.Supply.{Supply}
 
 -- the terms of the day's issues
-abbrev pub terms_in : Supply → List Terms
-terms_in s = map terms_of s.issues.now
+abbrev pub supply_terms : Supply → List Terms
+supply_terms s = map terms_of s.issues.now
 
 -- the forced issue of a match in basket k
 abbrev pub forced_in : ℕ → Supply → ℕ
-forced_in k s = forced_issue k (terms_in s) (map marks_of s.issues.now) s.notified.now
+forced_in k s = forced_issue k (supply_terms s) (map marks_of s.issues.now) s.notified.now

@@ -78,7 +78,7 @@ pub struct Supply<'a> {
 }
 
 impl Supply<'_> {
-    ghost use Rattle.filling.specs.Supply.{terms_in, forced_in};
+    ghost use Rattle.filling.specs.Supply.{supply_terms, forced_in};
 
     // One match, filled: `runs` are the runs done, and the lots go into a lent row of zeros. What is short is forced in run 3 and carried
     // before: "the shortage .. stays in both positions; the rest is the covered amount and is filled afresh". Where nothing is short, all
@@ -92,7 +92,7 @@ impl Supply<'_> {
         lots: &mut [u64],
     ) -> Filling
         requires { Asked (length self.now.usable.now) amount.0 lots.old }
-        ensures { FilledAs (filled runs preferential (terms_in self.now) self.now.usable.now self.now.order.now (forced_in basket self.now) amount.0) result lots.new }
+        ensures { FilledAs (filled runs preferential (supply_terms self.now) self.now.usable.now self.now.order.now (forced_in basket self.now) amount.0) result lots.new }
     {
         if runs >= 2 && self.all < amount {
             return self.force(basket, amount, lots);
@@ -109,7 +109,7 @@ impl Supply<'_> {
     // "In run 3 all usable lots go, and the fewest further lots of one forced issue reach the amount".
     fn force(&self, basket: u64, amount: Yen, lots: &mut [u64]) -> Filling
         requires { Forcible (length self.now.usable.now) self.now.all.0 amount.0 (length lots.old) }
-        ensures { FilledAs (force_of (terms_in self.now) self.now.usable.now (forced_in basket self.now) amount.0) result lots.new }
+        ensures { FilledAs (force_of (supply_terms self.now) self.now.usable.now (forced_in basket self.now) amount.0) result lots.new }
     {
         lots.copy_from_slice(self.usable);
         let i = forced::forced_issue(self.issues, basket, self.notified);
@@ -132,7 +132,7 @@ impl Supply<'_> {
     #[inline(never)]
     fn fill(&self, preferential: bool, amount: Yen, lots: &mut [u64])
         requires { Asked (length self.now.usable.now) amount.0 lots.old }
-        ensures { lots.new ≡ (fill_of preferential (terms_in self.now) self.now.usable.now self.now.order.now amount.0).lots }
+        ensures { lots.new ≡ (fill_of preferential (supply_terms self.now) self.now.usable.now self.now.order.now amount.0).lots }
     {
         if amount == Yen(0) {
             return;

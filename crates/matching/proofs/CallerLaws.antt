@@ -18,7 +18,7 @@ use Rattle.rule.proofs.DrawLaws.{EachOnce}
 use Rattle.arrayvec.specs.ArrayVec.{ArrayVec}
 use Rattle.matching.specs.declared.Match.{Match as Entry}
 use Rattle.matching.proofs.ListLaws.{block-block}
-use Rattle.matching.specs.Plans.{match_of, pair_marks, Planned, Basket}
+use Rattle.matching.specs.Plans.{rule_match, pair_marks, Planned, Basket}
 
 -- ---- a basket of a sound day
 
@@ -58,8 +58,8 @@ marks-of-book book at n h k =
 
 -- how many they are
 pub planned-count : {ms : List Match} {made : ArrayVec Entry} → Planned ms made → length made.items ≡ length ms
-planned-count {made = made} p = sym (length-map made.items match_of) ∙ ap length p.matches
+planned-count {made = made} p = sym (length-map made.items rule_match) ∙ ap length p.matches
 
 -- the k-th match
-pub planned-at : {ms : List Match} {made : ArrayVec Entry} → Planned ms made → (k : ℕ) (m : Entry) (d : Match) → k < length made.items → match_of (get_or made.items k m) ≡ get_or ms k d
-planned-at {made = made} p k m d h = sym (get_d_map match_of made.items k m d h) ∙ ap (λ (l : List Match). get_or l k d) p.matches
+pub planned-at : {ms : List Match} {made : ArrayVec Entry} → Planned ms made → (k : ℕ) (m : Entry) (d : Match) → k < length made.items → rule_match (get_or made.items k m) ≡ get_or ms k d
+planned-at {made = made} p k m d h = sym (get_d_map rule_match made.items k m d h) ∙ ap (λ (l : List Match). get_or l k d) p.matches

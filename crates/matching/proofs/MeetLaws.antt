@@ -13,7 +13,7 @@ use Rattle.lists.proofs.FoldLaws.{foldl-append}
 use Rattle.lists.proofs.AppendLaws.{map-append}
 use Rattle.rule.specs.Matching.{Match, Left, matched, meet}
 use Rattle.matching.specs.declared.Match.{Match as Entry}
-use Rattle.matching.specs.Plans.{match_of, Room}
+use Rattle.matching.specs.Plans.{rule_match, Room}
 
 -- the smaller of what the two have left
 abbrev pub smaller : Left → ℕ × ℕ → ℕ
@@ -50,18 +50,18 @@ meets-grow q (c ∷ cs) s = le_trans (meet-grows q s c) (meets-grow q cs (meet q
 
 module _ (q : Bool) (owed due : List ℕ) (made : List Entry) (d r x : ℕ) (e : x ≡ min (get_or owed d 0) (get_or due r 0)) where
   abbrev here : Left
-  here = record { owed = owed; due = due; made = map match_of made }
+  here = record { owed = owed; due = due; made = map rule_match made }
 
   pub nothing-met : x ≡ 0 → here ≡ meet q here (d, r)
   nothing-met z = sym (meet-none q here (d, r) (sym e ∙ z))
 
   pub room-to-meet : Room (meet q here (d, r)) → (x ≡ 0 → ⊥) → length made < 11
-  room-to-meet m z = omega (arith, m, length-meet-some q here (d, r) (omega arith), length-map made match_of)
+  room-to-meet m z = omega (arith, m, length-meet-some q here (d, r) (omega arith), length-map made rule_match)
 
-  pub one-met : (m : Entry) → match_of m ≡ record { deliverer = d; receiver = r; amount = x; preferential = q } → (x ≡ 0 → ⊥)
-      → record { owed = less owed d x; due = less due r x; made = map match_of (made ++ (m ∷ [])) } ≡ meet q here (d, r)
+  pub one-met : (m : Entry) → rule_match m ≡ record { deliverer = d; receiver = r; amount = x; preferential = q } → (x ≡ 0 → ⊥)
+      → record { owed = less owed d x; due = less due r x; made = map rule_match (made ++ (m ∷ [])) } ≡ meet q here (d, r)
   unfolding meet
-  one-met m f z = rw (map-append match_of made (m ∷ []), f, ← e, matched-some q (d, r) x (omega arith))
+  one-met m f z = rw (map-append rule_match made (m ∷ []), f, ← e, matched-some q (d, r) x (omega arith))
 
 -- ---- many meetings
 

@@ -14,7 +14,7 @@ use Rattle.rule.proofs.MatchingLaws.{few_matches}
 use Rattle.arrayvec.specs.ArrayVec.{ArrayVec}
 use Rattle.matching.specs.declared.Match.{Match as Entry}
 use Rattle.matching.specs.declared.Left.{Left}
-use Rattle.matching.specs.Plans.{match_of, left_of, SameBuffers, Planned, Drawing, pair_marks, Preferring, Basket}
+use Rattle.matching.specs.Plans.{rule_match, left_of, SameBuffers, Planned, Drawing, pair_marks, Preferring, Basket}
 
 -- matches made before a turn, or before turns, stay in front
 turns_from : (draw ds : List ℕ) (o u : List ℕ) (before made : List Match)
@@ -67,4 +67,4 @@ module _ (runs : ℕ) (marks draw : List ℕ) (s : Left) (b : Basket marks draw 
     pub plan-done : (u : Left) {made : ArrayVec Entry} → left_of u ≡ foldl (turn draw) (left_of t) (deliverers t.owed.now) → made ≡ u.made.now
         → Planned (plan runs (pair_marks marks (length s.owed.now)) draw s.owed.now s.due.now) made
     unfolding plan
-    plan-done u f g = record { matches = ap (λ (p : ArrayVec Entry). map match_of p.items) g ∙ ap (λ (v : rule.Left). v.made) (f ∙ whole) }
+    plan-done u f g = record { matches = ap (λ (p : ArrayVec Entry). map rule_match p.items) g ∙ ap (λ (v : rule.Left). v.made) (f ∙ whole) }

@@ -21,7 +21,7 @@ use Rattle.rule.specs.Matching as rule
 use Rattle.ranking.specs.Ranks.{Keyed}
 use Rattle.matching.specs.declared.Match.{Match as Entry}
 use Rattle.matching.specs.declared.Left.{Left}
-use Rattle.matching.specs.Plans.{match_of, left_of, SameBuffers, Room, Meeting, Turning, Drawing}
+use Rattle.matching.specs.Plans.{rule_match, left_of, SameBuffers, Room, Meeting, Turning, Drawing}
 use Rattle.matching.proofs.ListLaws.{with_all, map-sorted}
 use Rattle.matching.proofs.MeetLaws.{meets-none, meets-on, meets-room, meets-grow, meets_from}
 use Rattle.matching.proofs.PairLaws.{same_still}
@@ -89,18 +89,18 @@ module _ {draw : List ℕ} {d : ℕ} {s₀ s : Left} {j : ℕ} (t : Turning draw
 
 -- the matches made since are sorted by amount: the turn
 pub turn_is : (draw : List ℕ) (d : ℕ) (owed due owed' due' : List ℕ) (made made' : List Entry)
-    → record { owed = owed'; due = due'; made = map match_of made' } ≡ met draw (record { owed = owed; due = due; made = map match_of made }) d
-    → record { owed = owed'; due = due'; made = map match_of (take (length made) made' ++ sorted (λ m. m.amount.0) (drop (length made) made')) }
-    ≡ turn draw (record { owed = owed; due = due; made = map match_of made }) d
+    → record { owed = owed'; due = due'; made = map rule_match made' } ≡ met draw (record { owed = owed; due = due; made = map rule_match made }) d
+    → record { owed = owed'; due = due'; made = map rule_match (take (length made) made' ++ sorted (λ m. m.amount.0) (drop (length made) made')) }
+    ≡ turn draw (record { owed = owed; due = due; made = map rule_match made }) d
 unfolding turn
 turn_is draw d owed due owed' due' made made' e =
     rw (ap (λ (t : rule.Left). t.owed) (e ∙ met-is draw s d), ap (λ (t : rule.Left). t.due) (e ∙ met-is draw s d))
     (ap (λ (ms : List Match). record { owed = its.owed; due = its.due; made = ms })
-    (map-append match_of (take n made') (sorted (λ m. m.amount.0) (drop n made'))
-    ∙ ap₂ (λ (xs ys : List Match). xs ++ ys) front (map-sorted match_of (λ m. m.amount) (drop n made') ∙ ap (sorted (λ m. m.amount)) behind)))
+    (map-append rule_match (take n made') (sorted (λ m. m.amount.0) (drop n made'))
+    ∙ ap₂ (λ (xs ys : List Match). xs ++ ys) front (map-sorted rule_match (λ m. m.amount) (drop n made') ∙ ap (sorted (λ m. m.amount)) behind)))
   where
     s : rule.Left
-    s = record { owed = owed; due = due; made = map match_of made }
+    s = record { owed = owed; due = due; made = map rule_match made }
 
     n : ℕ
     n = length made
@@ -108,19 +108,19 @@ turn_is draw d owed due owed' due' made made' e =
     its : rule.Left
     its = alone draw s d
 
-    all : map match_of made' ≡ map match_of made ++ its.made
+    all : map rule_match made' ≡ map rule_match made ++ its.made
     all = ap (λ (t : rule.Left). t.made) (e ∙ met-is draw s d)
 
-    front : map match_of (take n made') ≡ map match_of made
-    front = sym (take-map match_of n made') ∙ ap (take n) all ∙ take_at (map match_of made) its.made n (length-map made match_of)
+    front : map rule_match (take n made') ≡ map rule_match made
+    front = sym (take-map rule_match n made') ∙ ap (take n) all ∙ take_at (map rule_match made) its.made n (length-map made rule_match)
 
-    behind : map match_of (drop n made') ≡ its.made
-    behind = sym (drop-map match_of n made') ∙ ap (drop n) all ∙ drop_at (map match_of made) its.made n (length-map made match_of)
+    behind : map rule_match (drop n made') ≡ its.made
+    behind = sym (drop-map rule_match n made') ∙ ap (drop n) all ∙ drop_at (map rule_match made) its.made n (length-map made rule_match)
 
 -- no match is lost
 pub met-grows : (draw : List ℕ) (d : ℕ) (s t : Left) → left_of t ≡ met draw (left_of s) d → length s.made.now.items ≤ length t.made.now.items
 met-grows draw d s t e =
-    omega (arith, meets-grow false (with draw d) (left_of s), ap (λ (u : rule.Left). length u.made) e, length-map s.made.now.items match_of, length-map t.made.now.items match_of)
+    omega (arith, meets-grow false (with draw d) (left_of s), ap (λ (u : rule.Left). length u.made) e, length-map s.made.now.items rule_match, length-map t.made.now.items rule_match)
 
 -- every match has its amount
 unfoldable pub amount-keyed : (items : List Entry) (pre : Entry → Type 0) (post : Entry → ℕ → Type 0) → ((m : Entry) → pre m) → ((m : Entry) (n : ℕ) → post m n → n ≡ m.amount.0)
@@ -159,7 +159,7 @@ module _ (draw : List ℕ) (d : ℕ) (s t : Left) (n : ℕ) (made : List Entry) 
         length-append (take first now) (sorted (λ m. m.amount.0) (drop first now))
         ∙ omega (arith, length-take first now, length-sorted (λ m. m.amount.0) (drop first now), length-drop first now, met-grows draw d s t e)
 
-    pub turn-left : record { owed = t.owed.now; due = t.due.now; made = map match_of (refill (length now) now (put_mid n (length made - n) made ordered)) } ≡ turn draw (left_of s) d
+    pub turn-left : record { owed = t.owed.now; due = t.due.now; made = map rule_match (refill (length now) now (put_mid n (length made - n) made ordered)) } ≡ turn draw (left_of s) d
     turn-left =
         rw (back, take_at in_order (drop (length in_order) now) (length now) as-long)
         (turn_is draw d s.owed.now s.due.now t.owed.now t.due.now s.made.now.items now e)

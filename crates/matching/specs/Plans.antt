@@ -11,12 +11,12 @@ use Rattle.matching.specs.declared.Match.{Match as Entry}
 use Rattle.matching.specs.declared.Left.{Left}
 
 -- the rule's match
-abbrev pub match_of : Entry → Match
-match_of m = record { deliverer = m.deliverer; receiver = m.receiver; amount = m.amount.0; preferential = m.preferential }
+abbrev pub rule_match : Entry → Match
+rule_match m = record { deliverer = m.deliverer; receiver = m.receiver; amount = m.amount.0; preferential = m.preferential }
 
 -- the positions left and the matches made
 abbrev pub left_of : Left → rule.Left
-left_of s = record { owed = s.owed.now; due = s.due.now; made = map match_of s.made.now.items }
+left_of s = record { owed = s.owed.now; due = s.due.now; made = map rule_match s.made.now.items }
 
 -- the lent buffers stay the same ones, and as long
 pub record SameBuffers (s t : Left) : Type 0 where
@@ -28,7 +28,7 @@ pub record SameBuffers (s t : Left) : Type 0 where
 
 -- the matches in the plan are ms
 pub record Planned (ms : List Match) (plan : ArrayVec Entry) : Type 0 where
-  pub matches : map match_of plan.items ≡ ms
+  pub matches : map rule_match plan.items ≡ ms
 
 -- a plan has room for the matches of s
 abbrev pub Room : rule.Left → Type 0

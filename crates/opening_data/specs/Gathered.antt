@@ -25,8 +25,8 @@ abbrev pub listed_codes : OpeningData → List (List ℕ)
 listed_codes gathered = codes_in (slice_range gathered.codes 0 (code_size * min gathered.listed most_issues))
 
 -- the opening call on what is gathered. Sizes for which there is no room are refused, whatever is lent with them
-abbrev pub opened : OpeningData → List ℕ → Reply × List ℕ
-opened gathered book =
+abbrev pub opening_of : OpeningData → List ℕ → Reply × List ℕ
+opening_of gathered book =
     let n = min gathered.participants 12 in
     let m = min gathered.issues 32 in
     let listed = min gathered.listed 32 in

@@ -4,7 +4,7 @@
 ghost use Rattle.std.specs.Prelude.{◌≡◌, ◌+◌, ◌*◌, ◌<◌, ◌≤◌, min, length, slice_range, OnErr, OnOk};
 ghost use Rattle.reply.specs.Answers.{told};
 ghost use Rattle.words.specs.Lines.{words_left};
-ghost use Rattle.opening_data.specs.Gathered.{empty, opened, DayLine, IssueLine, ReceiptLine, PairLine};
+ghost use Rattle.opening_data.specs.Gathered.{empty, opening_of, DayLine, IssueLine, ReceiptLine, PairLine};
 ghost use Rattle.rule.specs.Day.{baskets, code_size};
 ghost use Rattle.rule.specs.Layout.{most_participants, most_issues, lots_size, square};
 
@@ -165,7 +165,7 @@ impl OpeningData {
 
     // Makes the call. Sizes for which there is no room are refused, whatever is lent with them.
     pub fn open(&self, book: &mut [u64]) -> Result<(), Refusal>
-        ensures { (told result, book.new) ≡ opened self.now book.old }
+        ensures { (told result, book.new) ≡ opening_of self.now book.old }
     {
         let n = self.participants.min(MOST_PARTICIPANTS as u64) as usize;
         let m = self.issues.min(MOST_ISSUES as u64) as usize;

@@ -10,7 +10,7 @@ use Rattle.rule.specs.Allocable.{no_marks, allocable}
 use Rattle.rule.specs.Matching.{Match, plan}
 use Rattle.rule.specs.Filling.{Filled, filled, forced_issue, all_lots}
 use Rattle.rule.specs.Day.{Given, State, Day, baskets, mark}
-use Rattle.rule.specs.Entries.{match_row, line_row}
+use Rattle.rule.specs.Entries.{MatchEntry, match_row, line_row}
 
 -- a match of this run with what it was filled with. All that a run hands out and leaves is read off the list of these
 pub record Allocation : Type 0 where
@@ -69,8 +69,8 @@ allocations y draw = foldl (λ done k. done ++ basket y draw (used_table y.given
 -- ---- the two lists
 
 -- a match of the list, "in the order filled"
-unfoldable pub match_entry : Allocation → List ℕ
-match_entry a = match_row (record {
+abbrev pub entry_of : Allocation → MatchEntry
+entry_of a = record {
   basket = a.basket;
   deliverer = a.match.deliverer;
   receiver = a.match.receiver;
@@ -78,7 +78,10 @@ match_entry a = match_row (record {
   covered = a.filled.covered;
   forced = a.filled.forced;
   forced_lots = a.filled.forced_lots;
-})
+}
+
+unfoldable pub match_entry : Allocation → List ℕ
+match_entry a = match_row (entry_of a)
 
 -- a match's lines: "issues rise within a match"
 unfoldable pub lines_of : ℕ → Allocation → List (List ℕ)

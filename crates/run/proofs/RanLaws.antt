@@ -2,7 +2,7 @@
 use mathlib.Core.Path.{◌≡◌, refl, sym, ap, ap₂, ◌∙◌, subst}
 use mathlib.Core.Logic.{◌≢◌, ◌⊎◌, inl, inr}
 use mathlib.Core.List.{map, List, []}
-use Prim.Native.Nat.{ℕ, ◌+◌, ◌-◌, ◌*◌, ◌≤◌, ◌<◌}
+use Prim.Native.Nat.{ℕ, ◌+◌, ◌-◌, ◌≤◌, ◌<◌}
 use native.Mathlib.Decide.{ℕ_discrete}
 use native.Mathlib.Omega.{arith}
 use lib.ListN.{length, get_or, set, take, drop, replicate, length-set, length-replicate, get_or-replicate}
@@ -15,7 +15,7 @@ use Rattle.lists.specs.Folds.{joined, Every}
 use Rattle.lists.proofs.TableLaws.{get_or-table, get_or-zeros}
 use Rattle.lists.proofs.PartLaws.{Outside, Stands}
 use mathlib.Core.Bool.{true}
-use Rattle.run_match.specs.Filled.{issue_rows, book_terms, book_marks}
+use Rattle.layout.specs.InBook.{participants_in, issues_in, issue_rows, book_terms, book_marks}
 use Rattle.rule.specs.Day.{Day, mark, terms_of}
 use Rattle.rule.specs.Sound.{all_terms_fit}
 use Rattle.rule.specs.Run.{Allocation, used, allocations, ran, covered_from, covered_to, covered_pair, lots_from, lots_to, match_list, line_list, lines_from}
@@ -36,7 +36,7 @@ use Rattle.run_usable.specs.declared.Stock.{Stock}
 use Rattle.run_post.specs.declared.listing.Lists.{Lists}
 use Rattle.run_post.specs.Listed.{SameLists}
 use Rattle.run_post.proofs.ListingLaws.{same-lists, same-then}
-use Rattle.run_order.specs.Sizes.{participants_in, issues_in, Sized}
+use Rattle.run_order.specs.Sizes.{DaySized}
 use Rattle.run_basket.specs.Running.{done_to, BookedTo, Start, Running, Stocked, Done, BasketAsks}
 use Rattle.run.specs.Ran.{BasketsAsk, BasketsDone, Cleared, Ran}
 use Rattle.lists.proofs.RowLaws.{lent-size, lent-in, lent_out, where-is}
@@ -108,7 +108,7 @@ pub record ClearedTo (b c : List ℕ) (p : ℕ) : Type 0 where
   pub none : (q i : ℕ) → q < p → i < issues_in b → get_or c (lots_cell notices_at q i) 0 ≡ 0
   pub kept : (j : ℕ) → ((q i : ℕ) → q < p → i < issues_in b → j ≢ lots_cell notices_at q i) → get_or c j 0 ≡ get_or b j 0
 
-module _ (b : List ℕ) (s : Sized b) where
+module _ (b : List ℕ) (s : DaySized b) where
   abbrev n : ℕ
   n = participants_in b
 
@@ -286,7 +286,7 @@ module _ (b draw m₀ l₀ : List ℕ) (h : Start b draw m₀ l₀) where
     }
 
   module _ {c : List ℕ} {t : Lists} (w : BasketsDone b draw m₀ l₀ c t) where
-    pub clear-asked : Sized c
+    pub clear-asked : DaySized c
     clear-asked = sized-kept b h.book (allocations (view b) draw) c w.running.booked
 
     -- the lists that were lent are those that the run wrote

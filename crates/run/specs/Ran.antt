@@ -5,7 +5,7 @@ use Rattle.lists.specs.Parts.{over}
 use Rattle.rule.specs.Run.{allocations, ran, match_list, line_list}
 use Rattle.rule.specs.Layout.{notices_at, lots_cell, view, stored}
 use Rattle.run_post.specs.declared.listing.Lists.{Lists}
-use Rattle.run_order.specs.Sizes.{participants_in, issues_in}
+use Rattle.layout.specs.InBook.{participants_in, issues_in}
 use Rattle.run_usable.specs.declared.Stock.{Stock}
 use Rattle.run_basket.specs.Running.{Start, Running, Stocked}
 

@@ -1,5 +1,5 @@
 // A run on a sound book: the seven baskets, and what they leave.
-ghost use Rattle.run_order.specs.Sizes.{Sized};
+ghost use Rattle.run_order.specs.Sizes.{DaySized};
 ghost use Rattle.run_post.specs.Listed.{SameLists};
 ghost use Rattle.run_basket.specs.Running.{Start};
 ghost use Rattle.run.specs.Ran.{BasketsAsk, BasketsDone, Cleared, Ran};
@@ -37,7 +37,7 @@ fn run_baskets(book: &mut [u64], draw: &[u64], stock: Stock, lists: &mut Lists)
 
 // "Every accepted run clears all notices".
 fn clear_notices(book: &mut [u64])
-    requires { Sized book.old }
+    requires { DaySized book.old }
     ensures { Cleared book.old book.new }
 {
     let participants = book[layout::PARTICIPANTS] as usize;

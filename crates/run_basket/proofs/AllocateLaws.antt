@@ -13,13 +13,13 @@ use Rattle.rule.specs.Run.{Allocation, basket_plan}
 use Rattle.rule.specs.Layout.{view}
 use Rattle.filling.specs.Match.{FilledAs}
 use Rattle.filling.specs.declared.Filling.{Filling}
-use Rattle.matching.specs.Plans.{match_of}
+use Rattle.matching.specs.Plans.{rule_match}
 use Rattle.matching.specs.declared.Match.{Match as Entry}
 use Rattle.issue_order.specs.Ordered.{Ordered}
-use Rattle.run_order.specs.Sizes.{issues_in}
+use Rattle.layout.specs.InBook.{issues_in}
 use Rattle.run_order.specs.Orders.{Same, Orders, key_in, OrderedAt, OrderAsked, OrderFor}
 use Rattle.run_match.specs.declared.Basket.{Basket}
-use Rattle.run_match.specs.Filled.{may_use, UsableAsked, UsableLots, Fillable, filled_in, Writable, Wrote}
+use Rattle.run_match.specs.Filled.{match_may_use, UsableAsked, UsableLots, Fillable, filled_in, Writable, Wrote}
 use Rattle.run_post.specs.declared.listing.Lists.{Lists}
 use Rattle.run_post.specs.Listed.{SameLists}
 use Rattle.run_post.proofs.ListingLaws.{same-lists, same-then}
@@ -45,7 +45,7 @@ module _ (B : Basket) (b₁ : List ℕ) (made : List Entry) (orders₁ : List (A
     pub running : (s : Asks) → Running s.b₀ s.m₀ s.l₀ (done_at (view s.b₀) s.draw k j) b used t
     pub kept : (s : Asks) → Orders s.b₀ orders
     pub same : SameLists t₁ t
-    pub last_is : (s : Asks) → 0 < length order → (x : Entry) → last ≡ Some x → OrderedAt s.b₀ before x (may_use B used x.deliverer) order
+    pub last_is : (s : Asks) → 0 < length order → (x : Entry) → last ≡ Some x → OrderedAt s.b₀ before x (match_may_use B used x.deliverer) order
 
   pub allocating-none : {order usable : List ℕ} (last : Option Entry) → order ≡ [] → length usable ≡ get_or b₁ 1 0 → Allocating b₁ orders₁ used₁ order t₁ last usable 0
   allocating-none last e r = record {
@@ -61,7 +61,7 @@ module _ (B : Basket) (b₁ : List ℕ) (made : List Entry) (orders₁ : List (A
   issues-few s = omega (arith, issues-kept s.b₀ s.begun.start.book _ b₁ s.begun.running.booked, s.begun.start.book.sizes.most)
 
   counted : (s : Asks) → length (basket_plan (view s.b₀) s.draw k) ≡ length made
-  counted s = sym (ap length s.planning.planned) ∙ length-map made match_of
+  counted s = sym (ap length s.planning.planned) ∙ length-map made rule_match
 
   pub allocating-all : {b : List ℕ} {orders : List (ArrayVec ℕ)} {used order : List ℕ} {t : Lists} {last : Option Entry} {usable₀ : List ℕ} {j : ℕ} → length made ≤ j → Allocating b orders used order t last usable₀ j
       → (s : Asks) → Done s.b₀ s.m₀ s.l₀ (done_to (view s.b₀) s.draw (k + 1)) b orders used t
@@ -92,11 +92,11 @@ module _ (B : Basket) (b₁ : List ℕ) (made : List Entry) (orders₁ : List (A
           b used t (w.running s) usable all U last orders order (w.kept s) (λ x y. same y (w.last_is s x y.before y.there))
         where
           -- the match before is of the same deliverer and sort
-          same : (y : Same last e) → OrderedAt s.b₀ before y.before (may_use B used y.before.deliverer) order
-              → OrderedAt s.b₀ before e (may_use B used e.deliverer) order
+          same : (y : Same last e) → OrderedAt s.b₀ before y.before (match_may_use B used y.before.deliverer) order
+              → OrderedAt s.b₀ before e (match_may_use B used e.deliverer) order
           same y o =
-              subst (λ (x : Bool). Ordered (issues_in s.b₀) (key_in s.b₀ before e.deliverer x) (may_use B used e.deliverer) order) y.sort
-              (subst (λ (x : ℕ). Ordered (issues_in s.b₀) (key_in s.b₀ before x y.before.preferential) (may_use B used x) order) y.deliverer o)
+              subst (λ (x : Bool). Ordered (issues_in s.b₀) (key_in s.b₀ before e.deliverer x) (match_may_use B used e.deliverer) order) y.sort
+              (subst (λ (x : ℕ). Ordered (issues_in s.b₀) (key_in s.b₀ before x y.before.preferential) (match_may_use B used x) order) y.deliverer o)
 
     module _ {usable : List ℕ} {all : ℕ} (U : UsableLots b B e used usable all) {orders' : List (ArrayVec ℕ)} {order' : List ℕ} (O : OrderFor b before e usable all orders' order') where
       pub fill-asked : (lots : List ℕ) → lots ≡ zeros (issues_in b) → Asks → Fillable b B.stock e usable all order' lots
@@ -122,7 +122,7 @@ module _ (B : Basket) (b₁ : List ℕ) (made : List Entry) (orders₁ : List (A
               orders-kept s.b₀ s.draw s.m₀ s.l₀ s.begun.start B s.begun.basket made s.planning j e h E s.begun.stocked
               b used t (w.running s) orders' O.kept;
           same = same-then w.same W.same;
-          last_is = λ s x p z. subst (λ (q : Entry). OrderedAt s.b₀ before q (may_use B used' q.deliverer) order') (ap (λ (o : Option Entry). unwrap_or o e) z)
+          last_is = λ s x p z. subst (λ (q : Entry). OrderedAt s.b₀ before q (match_may_use B used' q.deliverer) order') (ap (λ (o : Option Entry). unwrap_or o e) z)
               (order-next s.b₀ s.draw s.m₀ s.l₀ s.begun.start B s.begun.basket made s.planning j e h E s.begun.stocked
               b used t (w.running s) usable all U orders' order' O f lots A b' used' t' W x);
         }

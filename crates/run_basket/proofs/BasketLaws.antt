@@ -13,12 +13,12 @@ use Rattle.rule.specs.Baskets.{within}
 use Rattle.rule.specs.Run.{Allocation, basket_plan}
 use Rattle.rule.specs.Layout.{view, row_cell}
 use Rattle.rule.proofs.BookLaws.{SoundBook}
-use Rattle.matching.specs.Plans.{match_of, Planned}
+use Rattle.matching.specs.Plans.{rule_match, Planned}
 use Rattle.matching.specs.declared.Match.{Match as Entry}
 use Rattle.arrayvec.specs.ArrayVec.{ArrayVec}
 use Rattle.run_usable.specs.Stock.{inside_of}
 use Rattle.run_usable.specs.declared.Stock.{Stock}
-use Rattle.run_order.specs.Sizes.{issues_in}
+use Rattle.layout.specs.InBook.{issues_in}
 use Rattle.run_match.specs.Filled.{plan_in}
 use Rattle.run_match.specs.declared.Basket.{Basket}
 use Rattle.run_post.specs.declared.listing.Lists.{Lists}
@@ -82,7 +82,7 @@ module _ (k : ℕ) (b draw : List ℕ) (stock : Stock) (orders : List (ArrayVec 
       l₀ = s.l₀;
       begun = s.begun;
       planning = record {
-        planned = ap (map match_of) l ∙ p.matches ∙ plan-same;
+        planned = ap (map rule_match) l ∙ p.matches ∙ plan-same;
         inside_is = inside-is;
         earlier = ap length earlier ∙ s.begun.running.places;
         before_at = λ d i x v. ap (λ (q : List ℕ). get_or q (row_cell d i) 0) earlier ∙ s.begun.running.gone d i x v;

@@ -25,7 +25,7 @@ use Rattle.rule.proofs.LayoutLaws.{Shaped, Holds, view-shaped, view-signed, view
 use Rattle.rule.proofs.RunLaws.{Runnable, Allocated, covered-from, covered-to}
 use Rattle.rule.proofs.RunLots.{lots-from-most, lots-to-most}
 use Rattle.run_post.specs.Booked.{YenMoved, LotsMoved}
-use Rattle.run_order.specs.Sizes.{participants_in, issues_in}
+use Rattle.layout.specs.InBook.{participants_in, issues_in}
 use Rattle.run_basket.specs.Running.{out_of, back_to, BookedTo}
 use Rattle.run_basket.proofs.DoneLaws.{Part, part-total}
 use Rattle.signed.proofs.SignLaws.{tally-out, tally-back, owed-less, due-less, marked_more}

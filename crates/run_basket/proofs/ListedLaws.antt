@@ -22,7 +22,7 @@ use Rattle.rule.specs.Run.{Allocation, match_entry, lines_of, lines_from, match_
 use Rattle.rule.proofs.RunLists.{match-sizes, length-match_list}
 use Rattle.filling.specs.Match.{FilledAs}
 use Rattle.filling.specs.declared.Filling.{Filling}
-use Rattle.run_post.specs.Listed.{entry_of, line_for, lines_to, lines_for, Listed}
+use Rattle.run_post.specs.Listed.{entry_cells, line_for, lines_to, lines_for, Listed}
 use Rattle.run_match.specs.Filled.{lots_with}
 
 -- ---- the definition's lists
@@ -71,7 +71,7 @@ line-cells done = joined_length 3 (line_list done) (from-three 0 done)
 -- ---- the code's rows, where a match is filled as the definition says
 
 module _ (F : Filled) (f : Filling) (lots : List ℕ) (w : FilledAs F f lots) where
-  pub entry-is : (k d r amount : ℕ) → entry_of k d r amount f ≡ k ∷ d ∷ r ∷ amount ∷ F.covered ∷ F.forced ∷ F.forced_lots ∷ []
+  pub entry-is : (k d r amount : ℕ) → entry_cells k d r amount f ≡ k ∷ d ∷ r ∷ amount ∷ F.covered ∷ F.forced ∷ F.forced_lots ∷ []
   entry-is k d r amount = rw (w.covered, w.forced, w.forced_lots) refl
 
   module _ (inside : F.forced < length F.lots) where

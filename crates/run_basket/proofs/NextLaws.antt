@@ -25,7 +25,7 @@ use Rattle.rule.specs.Layout.{notices_at, view, lots_cell, lots_row, row_cell, r
 use Rattle.rule.proofs.LayoutLaws.{view-shaped, view-signed}
 use Rattle.rule.proofs.RunLaws.{Runnable, Allocated, allocated}
 use Rattle.rule.proofs.RunLots.{used-append, used-cell}
-use Rattle.matching.specs.Plans.{match_of}
+use Rattle.matching.specs.Plans.{rule_match}
 use Rattle.matching.specs.declared.Match.{Match as Entry}
 use Rattle.filling.specs.Match.{Idle}
 use Rattle.filling.proofs.KeptLaws.{filled-kept}
@@ -35,9 +35,9 @@ use Rattle.lists.proofs.FoldLaws.{every_map}
 use Rattle.lists.proofs.OrderLaws.{ranked-alike, ranked-below}
 use Rattle.arrayvec.specs.ArrayVec.{ArrayVec}
 use Rattle.run_usable.specs.Stock.{inside_of, usable_of}
-use Rattle.run_order.specs.Sizes.{participants_in, issues_in}
+use Rattle.layout.specs.InBook.{participants_in, issues_in, book_terms, book_marks}
 use Rattle.run_order.specs.Orders.{key_in, OrderedAt, OrderFor}
-use Rattle.run_match.specs.Filled.{book_terms, book_marks, may_use, usable_in, UsableLots, filled_in}
+use Rattle.run_match.specs.Filled.{match_may_use, match_usable, UsableLots, filled_in}
 use Rattle.run_match.specs.declared.Basket.{Basket}
 use Rattle.run_post.specs.declared.listing.Lists.{Lists}
 use Rattle.run_basket.specs.Running.{done_to, done_in, done_at, Start, Running, Stocked, Planning}
@@ -80,22 +80,22 @@ module _ (b draw m₀ l₀ : List ℕ) (S : Start b draw m₀ l₀) (B : Basket)
 
   -- the match of the plan, filled
   abbrev pub next : Allocation
-  next = next_of (view b) draw k j (match_of e)
+  next = next_of (view b) draw k j (rule_match e)
 
   counted : length (basket_plan (view b) draw k) ≡ length made
-  counted = sym (ap length P.planned) ∙ length-map made match_of
+  counted = sym (ap length P.planned) ∙ length-map made rule_match
 
-  planned-here : match_of e ≡ get_or (basket_plan (view b) draw k) j (match_of e)
+  planned-here : rule_match e ≡ get_or (basket_plan (view b) draw k) j (rule_match e)
   planned-here =
-      ap match_of E ∙ sym (get_d_map match_of made j e (match_of e) l) ∙ ap (λ (ms : List Match). get_or ms j (match_of e)) P.planned
+      ap rule_match E ∙ sym (get_d_map rule_match made j e (rule_match e) l) ∙ ap (λ (ms : List Match). get_or ms j (rule_match e)) P.planned
 
   pub next-is : done_at (view b) draw k (j + 1) ≡ done ++ (next ∷ [])
   next-is =
-      done_next (view b) draw k j (match_of e) (omega (arith, counted))
+      done_next (view b) draw k j (rule_match e) (omega (arith, counted))
       ∙ ap (λ (x : Match). done ++ (next_of (view b) draw k j x ∷ [])) (sym planned-here)
 
   pub next-part : Part (view b) draw (done ++ (next ∷ []))
-  next-part = subst (Part (view b) draw) next-is (part_at (view b) draw k (j + 1) basket (omega (arith, counted)) (match_of e))
+  next-part = subst (Part (view b) draw) next-is (part_at (view b) draw k (j + 1) basket (omega (arith, counted)) (rule_match e))
 
   pub next-allocated : Allocated (view b) next
   next-allocated = last_of (Allocated (view b)) done next (part-every (view b) draw (Allocated (view b)) next-part (allocated (view b) draw (runnable b draw m₀ l₀ S)))
@@ -132,7 +132,7 @@ module _ (b draw m₀ l₀ : List ℕ) (S : Start b draw m₀ l₀) (B : Basket)
         ∙ ap (λ (x : ℕ). x + used (done_in (view b) draw k j) d i) (sym (used-cell (view b).given (done_to (view b) draw k) d i deliverer-of-day h))
 
     usable-cell : (i : ℕ) → i < m
-        → may_use B used' d i
+        → match_may_use B used' d i
         ≡ pick (within k (get_or (view b).given.terms i no_terms)) (allocable_of (view b) d i - (cell (used_table (view b).given (done_to (view b) draw k)) d i + used (done_in (view b) draw k j) d i)) 0
     unfolding usable_of inside_of
     usable-cell i h =
@@ -140,11 +140,11 @@ module _ (b draw m₀ l₀ : List ℕ) (S : Start b draw m₀ l₀) (B : Basket)
         (ap (λ (r : List Bool). get_or r i false) P.inside_is ∙ get_or-table m (inside_of b k) i false h ∙ ap (within k) (sym (terms-read b i h)))
         (ap₂ (λ (x z : ℕ). x - z) (T.lots.each d i deliverer-of-day h ∙ sym (allocable-read b d i deliverer-of-day h)) (used-here i h))
 
-    usable_same : usable_in c B used' d ≡ usable (view b) k (used_table (view b).given (done_to (view b) draw k)) (done_in (view b) draw k j) d
+    usable_same : match_usable c B used' d ≡ usable (view b) k (used_table (view b).given (done_to (view b) draw k)) (done_in (view b) draw k j) d
     unfolding usable view
     usable_same =
-        ap (λ (x : ℕ). table x (may_use B used' d)) (issues-kept b S.book done c R.booked)
-        ∙ table-agree m (may_use B used' d) _ usable-cell
+        ap (λ (x : ℕ). table x (match_may_use B used' d)) (issues-kept b S.book done c R.booked)
+        ∙ table-agree m (match_may_use B used' d) _ usable-cell
 
     -- the order's keys are the definition's
     order-of : (preferential : Bool) → ranked (λ i. order_key preferential (get_or b (lots_cell notices_at d i) 0) (get_or before (row_cell d i) 0)) m

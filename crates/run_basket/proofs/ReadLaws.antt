@@ -25,8 +25,9 @@ use Rattle.rule.specs.Run.{Allocation, used_table, allocate, basket_plan, basket
 use Rattle.rule.specs.Layout.{terms_at, receipts_at, pairs_at, positions_at, notices_at, today_at, plus, minus, view, signed, position_cell, most_participants, most_issues, participants_at, issues_at, runs_at, issue_terms, lots_cell, position_row, mark_square}
 use Rattle.rule.proofs.BookLaws.{SoundBook}
 use Rattle.run_usable.specs.Stock.{terms_in, marks_in, allocable_in}
-use Rattle.run_order.specs.Sizes.{participants_in, issues_in, Sized}
-use Rattle.run_match.specs.Filled.{positions_in, plan_in, issue_rows, book_terms, book_marks}
+use Rattle.layout.specs.InBook.{participants_in, issues_in, issue_rows, book_terms, book_marks}
+use Rattle.run_order.specs.Sizes.{DaySized}
+use Rattle.run_match.specs.Filled.{positions_in, plan_in}
 use Rattle.run_basket.specs.Running.{done_to, BookedTo}
 use Rattle.run_basket.proofs.DoneLaws.{to-more}
 use Rattle.run_basket.proofs.BookedLaws.{booked-none}
@@ -102,7 +103,7 @@ module _ (b : List ℕ) (s : SoundBook b) (done : List Allocation) (c : List ℕ
   pub participants-kept : participants_in c ≡ participants_in b
   participants-kept = low-kept participants_at (omega arith)
 
-  pub sized-kept : Sized c
+  pub sized-kept : DaySized c
   sized-kept = record {
     cells = w.size;
     participants = omega (arith, participants-kept, s.sizes.few);

@@ -36,12 +36,12 @@ use Rattle.issue_order.specs.Ordered.{order_key}
 use Rattle.issue_order.proofs.OrderLaws.{ordered-moved}
 use Rattle.arrayvec.specs.ArrayVec.{ArrayVec}
 use Rattle.run_usable.specs.Stock.{marks_in, allocable_in, inside_of, usable_of}
-use Rattle.run_post.specs.Listed.{entry_of, lines_for}
+use Rattle.run_post.specs.Listed.{entry_cells, lines_for}
 use Rattle.run_post.specs.Booked.{YenMoved, LotsMoved}
-use Rattle.run_order.specs.Sizes.{participants_in, issues_in}
+use Rattle.layout.specs.InBook.{participants_in, issues_in}
 use Rattle.run_order.specs.Orders.{Same, notified_in, Orders, OrderedAt, OrderAsked, OrderFor}
 use Rattle.run_match.specs.declared.Basket.{Basket}
-use Rattle.run_match.specs.Filled.{may_use, QuotesOf, UsableAsked, UsableLots, Fillable, filled_in, lots_with, Writable, Wrote}
+use Rattle.run_match.specs.Filled.{match_may_use, QuotesOf, UsableAsked, UsableLots, Fillable, filled_in, lots_with, Writable, Wrote}
 use Rattle.run_order.proofs.OrderLaws.{orders-moved}
 use Rattle.run_post.specs.declared.listing.Lists.{Lists}
 use Rattle.run_basket.specs.Running.{done_at, Start, Running, Stocked, Planning}
@@ -51,6 +51,7 @@ use Rattle.run_basket.proofs.ReadLaws.{notices-read, allocable-read, sized-kept,
 use Rattle.run_basket.proofs.NextLaws.{runnable, next, next-is, next-part, next-allocated, next-deliverer, next-receiver, next-amount, deliverer-of-day, receiver-of-day, next-filled}
 use Rattle.run_post.proofs.ListingLaws.{cells-for}
 use Rattle.run_basket.proofs.ListedLaws.{lines-append, lines_more, entry-is, all-lots, all-size, lines_are, entries-more, rows_more}
+use Rattle.rule.specs.Sound.{tally_limit, notice_limit}
 
 -- the more is used, the less may be
 usable-falls : (inside : Bool) (allocable used used' : ℕ) → used ≤ used' → usable_of inside allocable used' ≤ usable_of inside allocable used
@@ -63,7 +64,7 @@ usable-falls inside allocable used used' h = cases inside
 
 -- what may be used is as long as there are issues
 pub usable-wide : {c : List ℕ} {B : Basket} {e : Entry} {used usable : List ℕ} {all : ℕ} → UsableLots c B e used usable all → length usable ≡ issues_in c
-usable-wide {c} {B} {e} {used} U = ap length U.row ∙ length-table (issues_in c) (may_use B used e.deliverer)
+usable-wide {c} {B} {e} {used} U = ap length U.row ∙ length-table (issues_in c) (match_may_use B used e.deliverer)
 
 module _ (b draw m₀ l₀ : List ℕ) (S : Start b draw m₀ l₀) (B : Basket) (basket : B.number < 7) (made : List Entry)
     (P : Planning b draw B made) (j : ℕ) (e : Entry) (l : j < length made) (E : e ≡ get_or made j e) (T : Stocked b B.stock) where
@@ -125,11 +126,11 @@ module _ (b draw m₀ l₀ : List ℕ) (S : Start b draw m₀ l₀) (B : Basket)
         S.book.day.positions.owed a.basket a.match.deliverer z.basket z.deliverer,
       )
 
-  lots-notified : (i : ℕ) → i < m → get_or b (lots_cell notices_at d i) 0 ≤ 200_000_000
+  lots-notified : (i : ℕ) → i < m → get_or b (lots_cell notices_at d i) 0 ≤ notice_limit
   unfolding view
   lots-notified i q = omega (arith, notices-read b d i deliverer q, S.book.day.limits.notices d i deliverer q)
 
-  allocable-few : (i : ℕ) → i < m → allocable_in b d i ≤ 200_000_000
+  allocable-few : (i : ℕ) → i < m → allocable_in b d i ≤ notice_limit
   unfolding allocable_in view
   allocable-few i q =
       omega (
@@ -150,30 +151,24 @@ module _ (b draw m₀ l₀ : List ℕ) (S : Start b draw m₀ l₀) (B : Basket)
       more_no (λ x. eqb x.match.deliverer p) (λ x. get_or x.filled.lots i 0) done a
       (ne_eqb a.match.deliverer p (λ q. other (sym (next-deliverer b draw m₀ l₀ S B basket made P j e l E) ∙ q)))
 
-  used-few : (i : ℕ) → i < m → used done d i + get_or a.filled.lots i 0 ≤ 200_000_000
+  used-within : (i : ℕ) → i < m → used done d i + get_or a.filled.lots i 0 ≤ allocable_in b d i
   unfolding used view
-  used-few i q =
+  used-within i q =
       omega (
         arith,
         used-more i,
         part-total (view b) draw (λ x. pick (eqb x.match.deliverer d) (get_or x.filled.lots i 0) 0) part,
         used-most (view b) draw h d i deliverer q,
         allocable-read b d i deliverer q,
-        allocable-few i q,
       )
+
+  used-few : (i : ℕ) → i < m → used done d i + get_or a.filled.lots i 0 ≤ notice_limit
+  used-few i q = omega (arith, used-within i q, allocable-few i q)
 
   used-enough : (i : ℕ) → i < m → used done d i ≤ allocable_in b d i
-  unfolding used view
-  used-enough i q =
-      omega (
-        arith,
-        used-more i,
-        part-total (view b) draw (λ x. pick (eqb x.match.deliverer d) (get_or x.filled.lots i 0) 0) part,
-        used-most (view b) draw h d i deliverer q,
-        allocable-read b d i deliverer q,
-      )
+  used-enough i q = omega (arith, used-within i q)
 
-  lots-few : (i : ℕ) → i < m → all_lots a.filled i ≤ 100_000_000_000
+  lots-few : (i : ℕ) → i < m → all_lots a.filled i ≤ tally_limit
   unfolding lots_from view
   lots-few i q =
       omega (
@@ -246,16 +241,16 @@ module _ (b draw m₀ l₀ : List ℕ) (S : Start b draw m₀ l₀) (B : Basket)
     orders-kept orders O = orders-moved c b issues-same (λ p i y x. notice-same p i y (omega (arith, issues-same))) O
 
     module _ (usable' : List ℕ) (all : ℕ) (U : UsableLots c B e used' usable' all) where
-      usable_at : (i : ℕ) → i < issues_in c → get_or usable' i 0 ≡ may_use B used' d i
-      usable_at i x = ap (λ (v : List ℕ). get_or v i 0) U.row ∙ get_or-table (issues_in c) (may_use B used' d) i 0 x
+      usable_at : (i : ℕ) → i < issues_in c → get_or usable' i 0 ≡ match_may_use B used' d i
+      usable_at i x = ap (λ (v : List ℕ). get_or v i 0) U.row ∙ get_or-table (issues_in c) (match_may_use B used' d) i 0 x
 
       -- an order of the book as it was is one of the book as it is
-      order-now : (order : List ℕ) → OrderedAt b before e (may_use B used' d) order → OrderedAt c before e (λ i. get_or usable' i 0) order
+      order-now : (order : List ℕ) → OrderedAt b before e (match_may_use B used' d) order → OrderedAt c before e (λ i. get_or usable' i 0) order
       order-now order o =
           ordered-moved (sym issues-same) (λ i x. ap (λ (v : ℕ). order_key pref v (get_or before (row_cell d i) 0)) (sym (notice-same d i deliverer-few x)))
           (λ i x. omega (arith, usable_at i (omega (arith, issues-same)))) o
 
-      pub order-asks : (last : Option Entry) (orders : List (ArrayVec ℕ)) (order : List ℕ) → Orders b orders → (0 < length order → Same last e → OrderedAt b before e (may_use B used' d) order)
+      pub order-asks : (last : Option Entry) (orders : List (ArrayVec ℕ)) (order : List ℕ) → Orders b orders → (0 < length order → Same last e → OrderedAt b before e (match_may_use B used' d) order)
           → OrderAsked c before last e usable' orders order
       order-asks last orders order O same = record {
         amount = amount_most;
@@ -338,7 +333,7 @@ module _ (b draw m₀ l₀ : List ℕ) (S : Start b draw m₀ l₀) (B : Basket)
           unfolding next_of allocate
           moved = W.moved
 
-          entry : entry_of k d r e.amount.0 f ≡ match_entry a
+          entry : entry_cells k d r e.amount.0 f ≡ match_entry a
           unfolding next_of allocate match_entry
           entry = entry-is a.filled f lots F k d r e.amount.0
 
@@ -353,7 +348,7 @@ module _ (b draw m₀ l₀ : List ℕ) (S : Start b draw m₀ l₀) (B : Basket)
                   W.gone.kept (row_cell p i) (λ o w s. e (omega (arith, row-size, S.book.sizes.most))) ∙ R.gone p i x v ∙ sym (used-else p i e)
 
           -- less may be used than before, so that the order is still right
-          less-usable : (i : ℕ) → i < m → may_use B used'' d i ≤ get_or usable' i 0
+          less-usable : (i : ℕ) → i < m → match_may_use B used'' d i ≤ get_or usable' i 0
           less-usable i x =
               omega (
                 arith,
@@ -361,7 +356,7 @@ module _ (b draw m₀ l₀ : List ℕ) (S : Start b draw m₀ l₀) (B : Basket)
                 usable-falls (get_or B.inside.now i false) (get_or B.stock.allocable.now (row_cell d i) 0) (get_or used' (row_cell d i) 0) (get_or used'' (row_cell d i) 0) (omega (arith, W.gone.more i (omega (arith, row-size)))),
               )
 
-          pub order-next : 0 < length order → OrderedAt b before e (may_use B used'' d) order
+          pub order-next : 0 < length order → OrderedAt b before e (match_may_use B used'' d) order
           order-next x =
               ordered-moved issues-same (λ i v. ap (λ (w : ℕ). order_key pref w (get_or before (row_cell d i) 0)) (notice-same d i deliverer-few (omega (arith, issues-same))))
               (λ i v. less-usable i (omega (arith, issues-same))) (O.listed x)
@@ -374,7 +369,7 @@ module _ (b draw m₀ l₀ : List ℕ) (S : Start b draw m₀ l₀) (B : Basket)
                 booked = booked-more b S.book draw h done a part z c W.between c' (lots_with f lots) R.booked yen moved (all-size a.filled f lots F forced ∙ issues) all_is;
                 places = W.gone.size ∙ R.places;
                 gone = gone;
-                match_size = ap length W.entry ∙ length_over t.matches.now (entry_of k d r e.amount.0 f) (7 * t.counts.matches) (omega (arith, write-asks.match_room)) ∙ R.match_size;
+                match_size = ap length W.entry ∙ length_over t.matches.now (entry_cells k d r e.amount.0 f) (7 * t.counts.matches) (omega (arith, write-asks.match_room)) ∙ R.match_size;
                 line_size = ap length W.listed.cells ∙ length_over t.lines.now (joined (lines_for t.counts.matches (lots_with f lots))) (3 * t.counts.lines) (omega (arith, write-asks.lots_asked.room, cells-for t.counts.matches (lots_with f lots))) ∙ R.line_size;
                 entries = entries-more m₀ t.matches.now t'.matches.now done a t.counts.matches R.entries R.match_count (omega (arith, matches-few, S.match_places)) (W.entry ∙ ap (over t.matches.now (7 * t.counts.matches)) entry);
                 rows = both.0;

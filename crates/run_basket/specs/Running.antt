@@ -12,12 +12,12 @@ use Rattle.rule.specs.Calls.{most_matches, most_lines}
 use Rattle.rule.specs.Layout.{book_length, view, signed, position_cell, lots_cell, tally_at, mark_cell, today_at, lots_size, row_cell}
 use Rattle.rule.proofs.BookLaws.{SoundBook}
 use Rattle.rule.proofs.DrawLaws.{EachOnce}
-use Rattle.matching.specs.Plans.{match_of}
+use Rattle.matching.specs.Plans.{rule_match}
 use Rattle.matching.specs.declared.Match.{Match as Entry}
 use Rattle.run_usable.specs.Stock.{inside_of, Allocable}
 use Rattle.run_usable.specs.declared.Stock.{Stock}
 use Rattle.run_post.specs.declared.listing.Lists.{Lists}
-use Rattle.run_order.specs.Sizes.{participants_in, issues_in}
+use Rattle.layout.specs.InBook.{participants_in, issues_in}
 use Rattle.run_order.specs.Orders.{Orders}
 use Rattle.run_match.specs.Filled.{QuotesOf}
 use Rattle.run_match.specs.declared.Basket.{Basket}
@@ -111,7 +111,7 @@ pub record BasketAsks (k : ℕ) (b draw : List ℕ) (s : Stock) (orders : List (
 
 -- the plan of the basket, its issues, and the lots used before it
 pub record Planning (b₀ draw : List ℕ) (B : Basket) (made : List Entry) : Type 0 where
-  pub planned : map match_of made ≡ basket_plan (view b₀) draw B.number
+  pub planned : map rule_match made ≡ basket_plan (view b₀) draw B.number
   pub inside_is : B.inside.now ≡ table (issues_in b₀) (inside_of b₀ B.number)
   pub earlier : length B.before.now ≡ lots_size
   pub before_at : (d i : ℕ) → d < participants_in b₀ → i < issues_in b₀ → get_or B.before.now (row_cell d i) 0 ≡ used (done_to (view b₀) draw B.number) d i

@@ -2,26 +2,24 @@
 use mathlib.Core.Path.{◌≡◌, sym, ap, ap₂, ◌∙◌, subst}
 use mathlib.Core.Bool.{Bool, false}
 use mathlib.Core.List.{List, map}
-use Prim.Native.Nat.{ℕ, ◌+◌, ◌-◌, ◌*◌, ◌≤◌, ◌<◌}
+use Prim.Native.Nat.{ℕ, ◌+◌, ◌≤◌, ◌<◌}
 use native.Mathlib.Omega.{arith}
 use lib.ListN.{length, get_or, length-map}
-use lib.Seq.{take_all}
 use Rattle.lists.specs.Tables.{table}
 use Rattle.lists.specs.Parts.{block}
 use Rattle.lists.proofs.TableLaws.{length-table, get_or-table}
-use Rattle.lists.proofs.PartLaws.{block-get, length-block, part-is, part_length, table-agree}
+use Rattle.lists.proofs.PartLaws.{block-get, length-block, table-agree}
 use Rattle.rule.specs.Day.{terms_of, marks_of}
 use Rattle.rule.specs.Filling.{Filled, filled, forced_issue}
 use Rattle.rule.specs.Layout.{runs_at, notices_at, row_start, lots_row}
 use Rattle.filling.specs.Match.{FilledAs}
 use Rattle.filling.specs.declared.Filling.{Filling}
 use Rattle.matching.specs.declared.Match.{Match as Entry}
-use Rattle.run_usable.specs.Stock.{usable_of, may_use as row_may_use, Usable as RowUsable, Usables}
-use Rattle.run_usable.specs.declared.Stock.{Stock}
+use Rattle.run_usable.specs.Stock.{usable_of, may_use, Usable as RowUsable, Usables}
 use Rattle.run_usable.proofs.StockLaws.{usable_most}
-use Rattle.run_order.specs.Sizes.{issues_in}
+use Rattle.layout.specs.InBook.{issues_in, issue_rows, book_terms, book_marks}
 use Rattle.run_match.specs.declared.Basket.{Basket}
-use Rattle.run_match.specs.Filled.{issue_rows, book_terms, book_marks, may_use, usable_in, UsableAsked, UsableLots, filled_in}
+use Rattle.run_match.specs.Filled.{match_may_use, match_usable, UsableAsked, UsableLots, filled_in}
 
 -- ---- what may be used
 
@@ -55,12 +53,12 @@ module _ {b : List ℕ} {B : Basket} {e : Entry} {used : List ℕ} {places : ℕ
 
     module _ {usable : List ℕ} {all : ℕ} (w : Usables inside allocable gone B.stock.quotes.now places usable all) where
       abbrev f : ℕ → ℕ
-      f i = may_use B used e.deliverer i
+      f i = match_may_use B used e.deliverer i
 
-      row_is : usable ≡ usable_in b B used e.deliverer
+      row_is : usable ≡ match_usable b B used e.deliverer
       row_is =
-          w.row_is ∙ ap (λ (n : ℕ). table n (row_may_use inside allocable gone)) h.row
-          ∙ table-agree m (row_may_use inside allocable gone) f (λ i l. ap₂ (usable_of (get_or inside i false)) (allocable-at i l) (gone-at i l))
+          w.row_is ∙ ap (λ (n : ℕ). table n (may_use inside allocable gone)) h.row
+          ∙ table-agree m (may_use inside allocable gone) f (λ i l. ap₂ (usable_of (get_or inside i false)) (allocable-at i l) (gone-at i l))
 
       most : (i : ℕ) → i < m → get_or usable i 0 ≤ 200_000_000
       most i l =

@@ -1,19 +1,19 @@
 -- Laws of a basket's plan. Assumes nothing.
-use mathlib.Core.Path.{◌≡◌, sym, ap, ap₂, ◌∙◌}
+use mathlib.Core.Path.{◌≡◌, ap, ap₂, ◌∙◌}
 use mathlib.Core.List.{List, map}
-use Prim.Native.Nat.{ℕ, ◌+◌, ◌-◌, ◌*◌, ◌≤◌, ◌<◌}
+use Prim.Native.Nat.{ℕ, ◌+◌, ◌≤◌}
 use native.Mathlib.Omega.{arith}
-use lib.ListN.{length, get_or, take, drop, length-map}
+use lib.ListN.{length, get_or, length-map}
 use Rattle.lists.specs.Parts.{block, grid}
-use Rattle.lists.proofs.PartLaws.{length-block, part-is, part_length}
+use Rattle.lists.proofs.PartLaws.{length-block}
 use Rattle.lists.proofs.CutLaws.{grid-within}
 use Rattle.rule.specs.Matching.{plan}
 use Rattle.rule.specs.Layout.{most_participants, square, runs_at, pairs_at, position_row, mark_square, plus, minus}
 use Rattle.arrayvec.specs.ArrayVec.{ArrayVec}
 use Rattle.matching.specs.declared.Match.{Match as Entry}
 use Rattle.matching.specs.Plans.{Basket, Planned, pair_marks}
-use Rattle.matching.proofs.CallerLaws.{sound-basket, marks-of-book}
-use Rattle.run_order.specs.Sizes.{participants_in}
+use Rattle.matching.proofs.CallerLaws.{sound-basket}
+use Rattle.layout.specs.InBook.{participants_in}
 use Rattle.run_match.specs.Filled.{positions_in, plan_in, PlanRows}
 
 module _ (b draw : List ℕ) (k : ℕ) (owed due : List ℕ) (h : PlanRows b draw k owed due) where

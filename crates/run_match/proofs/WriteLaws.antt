@@ -12,7 +12,7 @@ use Rattle.filling.specs.declared.Filling.{Filling}
 use Rattle.matching.specs.declared.Match.{Match as Entry}
 use Rattle.run_post.specs.declared.listing.Lists.{Lists}
 use Rattle.run_post.specs.Booked.{YenMoved}
-use Rattle.run_post.specs.Listed.{entry_of, Listed, MatchRoom, MatchAdded}
+use Rattle.run_post.specs.Listed.{entry_cells, Listed, MatchRoom, MatchAdded}
 use Rattle.run_post.proofs.ListingLaws.{same-then}
 use Rattle.run_post.specs.Issues.{IssuesWritten}
 use Rattle.run_match.specs.Filled.{lots_with, UsedBy, LotsWritable, LotsWritten, Writable, Wrote}
@@ -120,7 +120,7 @@ module _ {b between used : List ℕ} {k : ℕ} {s t : Lists} {m : Entry} {f : Fi
   pub match-written : {u : Lists} → MatchAdded t u k m f → Wrote b k m f lots used s b' used' u
   match-written {u} a = record {
     gone = w.gone;
-    entry = a.entry ∙ ap₂ (λ (cells : List ℕ) (number : ℕ). over cells (match_size * number) (entry_of k m.deliverer m.receiver m.amount.0 f)) w.only.matches w.only.match_count;
+    entry = a.entry ∙ ap₂ (λ (cells : List ℕ) (number : ℕ). over cells (match_size * number) (entry_cells k m.deliverer m.receiver m.amount.0 f)) w.only.matches w.only.match_count;
     matched = a.matched ∙ ap (λ (number : ℕ). number + 1) w.only.match_count;
     listed = subst (λ (count : ℕ). Listed s.lines.now u.lines.now s.counts.lines s.counts.matches (lots_with f lots) count) (sym a.line_count)
         (subst (λ (cells : List ℕ). Listed s.lines.now cells s.counts.lines s.counts.matches (lots_with f lots) t.counts.lines) (sym a.lines) w.listed);

@@ -2,25 +2,25 @@
 use Rattle.std.specs.Prelude.{◌≡◌, ◌≢◌, true, false, List, map, ℕ, ◌+◌, ◌*◌, ◌≤◌, ◌<◌, length, get_or, set}
 use Rattle.lists.specs.Tables.{table, zeros}
 use Rattle.lists.specs.Parts.{block, grid, over}
-use Rattle.rule.specs.Value.{Terms}
-use Rattle.rule.specs.Allocable.{Marks}
-use Rattle.rule.specs.Day.{baskets, term_size, terms_of, marks_of}
+use Rattle.rule.specs.Day.{baskets}
 use Rattle.rule.specs.Entries.{match_size, line_size}
 use Rattle.rule.specs.Matching.{Match, plan}
 use Rattle.matching.specs.declared.Match.{Match as Entry}
 use Rattle.rule.specs.Filling.{worth, Filled, filled, forced_issue}
-use Rattle.rule.specs.Layout.{most_participants, most_issues, lots_size, runs_at, terms_at, pairs_at, notices_at, book_length, row_cell, lots_row, position_row, mark_square, plus, minus}
+use Rattle.rule.specs.Layout.{most_participants, most_issues, lots_size, runs_at, pairs_at, notices_at, book_length, row_cell, lots_row, position_row, mark_square, plus, minus}
 use Rattle.rule.proofs.DrawLaws.{EachOnce}
 use Rattle.value.specs.Quotes.{Quotes}
-use Rattle.run_order.specs.Sizes.{participants_in, issues_in, Sized}
-use Rattle.filling.specs.Rows.{Named}
+use Rattle.layout.specs.InBook.{participants_in, issues_in, book_terms, book_marks}
+use Rattle.run_order.specs.Sizes.{DaySized}
+use Rattle.filling.specs.Rows.{NamesOnce}
 use Rattle.filling.specs.declared.Filling.{Filling}
 use Rattle.run_usable.specs.Stock.{usable_of}
 use Rattle.run_usable.specs.declared.Stock.{Stock}
 use Rattle.run_match.specs.declared.Basket.{Basket}
 use Rattle.run_post.specs.declared.listing.Lists.{Lists}
-use Rattle.run_post.specs.Listed.{entry_of, lines_for, Listed, SameLists, LinesOnly}
+use Rattle.run_post.specs.Listed.{entry_cells, lines_for, Listed, SameLists, LinesOnly}
 use Rattle.run_post.specs.Booked.{YenMoved, LotsMoved}
+use Rattle.rule.specs.Sound.{position_limit, notice_limit}
 
 -- ---- the plan of a basket
 
@@ -33,7 +33,7 @@ plan_in b draw k =
     plan (get_or b runs_at 0) (grid b (mark_square pairs_at k) most_participants (participants_in b) (participants_in b)) draw (map plus (positions_in b k)) (map minus (positions_in b k))
 
 pub record Plannable (b draw : List ℕ) (k : ℕ) : Type 0 where
-  pub sized : Sized b
+  pub sized : DaySized b
   pub basket : k < baskets
   pub drawn : EachOnce draw (participants_in b)
 
@@ -45,22 +45,12 @@ pub record PlanRows (b draw : List ℕ) (k : ℕ) (owed due : List ℕ) : Type 0
 
 -- ---- what may be used
 
--- the terms and marks of the day's issues
-abbrev pub issue_rows : List ℕ → List (List ℕ)
-issue_rows b = grid b terms_at term_size (issues_in b) term_size
-
-abbrev pub book_terms : List ℕ → List Terms
-book_terms b = map terms_of (issue_rows b)
-
-abbrev pub book_marks : List ℕ → List Marks
-book_marks b = map marks_of (issue_rows b)
-
 -- what match m may use of issue i, where so many lots are used
-abbrev pub may_use : Basket → List ℕ → ℕ → ℕ → ℕ
-may_use B used d i = usable_of (get_or B.inside.now i false) (get_or B.stock.allocable.now (row_cell d i) 0) (get_or used (row_cell d i) 0)
+abbrev pub match_may_use : Basket → List ℕ → ℕ → ℕ → ℕ
+match_may_use B used d i = usable_of (get_or B.inside.now i false) (get_or B.stock.allocable.now (row_cell d i) 0) (get_or used (row_cell d i) 0)
 
-abbrev pub usable_in : List ℕ → Basket → List ℕ → ℕ → List ℕ
-usable_in b B used d = table (issues_in b) (may_use B used d)
+abbrev pub match_usable : List ℕ → Basket → List ℕ → ℕ → List ℕ
+match_usable b B used d = table (issues_in b) (match_may_use B used d)
 
 -- the stock has the quote of each issue in the book
 pub record QuotesOf (b : List ℕ) (s : Stock) : Type 0 where
@@ -68,34 +58,34 @@ pub record QuotesOf (b : List ℕ) (s : Stock) : Type 0 where
   pub quoted : Quotes (book_terms b) s.quotes.now
 
 pub record UsableAsked (b : List ℕ) (B : Basket) (m : Entry) (used : List ℕ) (places : ℕ) : Type 0 where
-  pub sized : Sized b
+  pub sized : DaySized b
   pub deliverer : m.deliverer < most_participants
   pub quotes : QuotesOf b B.stock
   pub marked : issues_in b ≤ length B.inside.now
   pub stock : length B.stock.allocable.now ≡ lots_size
   pub gone : length used ≡ lots_size
-  pub allocable_most : (i : ℕ) → i < issues_in b → get_or B.stock.allocable.now (row_cell m.deliverer i) 0 ≤ 200_000_000
+  pub allocable_most : (i : ℕ) → i < issues_in b → get_or B.stock.allocable.now (row_cell m.deliverer i) 0 ≤ notice_limit
   pub enough : (i : ℕ) → i < issues_in b → get_or B.inside.now i false ≡ true
       → get_or used (row_cell m.deliverer i) 0 ≤ get_or B.stock.allocable.now (row_cell m.deliverer i) 0
   pub row : places ≡ issues_in b
 
 -- what match m may use, and what all of it is worth
 pub record UsableLots (b : List ℕ) (B : Basket) (m : Entry) (used usable : List ℕ) (all : ℕ) : Type 0 where
-  pub row : usable ≡ usable_in b B used m.deliverer
-  pub most : (i : ℕ) → i < issues_in b → get_or usable i 0 ≤ 200_000_000
+  pub row : usable ≡ match_usable b B used m.deliverer
+  pub most : (i : ℕ) → i < issues_in b → get_or usable i 0 ≤ notice_limit
   pub worth_is : all ≡ worth (book_terms b) usable
 
 -- ---- filling
 
 pub record Fillable (b : List ℕ) (s : Stock) (m : Entry) (usable : List ℕ) (all : ℕ) (order lots : List ℕ) : Type 0 where
-  pub sized : Sized b
+  pub sized : DaySized b
   pub deliverer : m.deliverer < most_participants
-  pub amount : m.amount.0 ≤ 10_000_000_000_000
+  pub amount : m.amount.0 ≤ position_limit
   pub quotes : QuotesOf b s
   pub wide : length usable ≡ issues_in b
-  pub most : (i : ℕ) → i < issues_in b → get_or usable i 0 ≤ 200_000_000
+  pub most : (i : ℕ) → i < issues_in b → get_or usable i 0 ≤ notice_limit
   pub worth_is : all ≡ worth (book_terms b) usable
-  pub named : Named (issues_in b) order
+  pub named : NamesOnce (issues_in b) order
   pub empty : lots ≡ zeros (issues_in b)
 
 unfoldable pub filled_in : List ℕ → ℕ → Entry → List ℕ → List ℕ → Filled
@@ -144,7 +134,7 @@ pub record Writable (b : List ℕ) (k : ℕ) (m : Entry) (f : Filling) (lots use
 -- match m is written: its lots used, listed and booked
 pub record Wrote (b : List ℕ) (k : ℕ) (m : Entry) (f : Filling) (lots used : List ℕ) (s : Lists) (b' used' : List ℕ) (t : Lists) : Type 0 where
   pub gone : UsedBy used used' m.deliverer lots
-  pub entry : t.matches.now ≡ over s.matches.now (match_size * s.counts.matches) (entry_of k m.deliverer m.receiver m.amount.0 f)
+  pub entry : t.matches.now ≡ over s.matches.now (match_size * s.counts.matches) (entry_cells k m.deliverer m.receiver m.amount.0 f)
   pub matched : t.counts.matches ≡ s.counts.matches + 1
   pub listed : Listed s.lines.now t.lines.now s.counts.lines s.counts.matches (lots_with f lots) t.counts.lines
   pub same : SameLists s t

@@ -24,14 +24,14 @@ use Rattle.lists.proofs.AppendLaws.{up_to-more}
 use Rattle.lists.proofs.OrderLaws.{ranked-alike}
 use Rattle.lists.specs.Parts.{block}
 use Rattle.rule.specs.Layout.{notices_at, lots_row, row_start}
-use Rattle.filling.specs.Rows.{Named}
+use Rattle.filling.specs.Rows.{NamesOnce}
 use Rattle.filling.proofs.OnceLaws.{kept-named}
 use Rattle.ranking.specs.Ranks.{Sortable}
 use Rattle.matching.specs.declared.Match.{Match}
 use Rattle.issue_order.specs.Ordered.{Orderable, Ordered, order_key}
 use Rattle.issue_order.proofs.OrderLaws.{ordered-moved}
-use Rattle.run_order.specs.Sizes.{issues_in}
-use Rattle.run_order.specs.Orders.{Same, notified_in, ranking_in, RankedAt, Orders, Rankable, OrderedAt, Loadable, Loaded, OrderAsked, OrderFor}
+use Rattle.layout.specs.InBook.{issues_in}
+use Rattle.run_order.specs.Orders.{Same, notified_in, ranking_in, RankedAt, Orders, RanksAsked, OrderedAt, Loadable, Loaded, OrderAsked, OrderFor}
 
 -- ---- a deliverer's issues, ranked
 
@@ -76,7 +76,7 @@ module _ {b before : List ℕ} {d : ℕ} {usable : List ℕ} {orders : List (Arr
     deliverer-there : d < length orders
     deliverer-there = omega (arith, L.kept.places, L.deliverer)
 
-    pub rank-asks : (x : ArrayVec ℕ) → Rankable notified (get_or orders d x).items
+    pub rank-asks : (x : ArrayVec ℕ) → RanksAsked notified (get_or orders d x).items
     rank-asks x =
         let same : (get_or orders d x).items ≡ ranking_in orders d = ap (λ (o : ArrayVec ℕ). o.items) (get_or_default orders d x (record { items = [] }) deliverer-there) in
         record {
@@ -132,8 +132,8 @@ pub not-empty : (empty : Bool) (n : ℕ) → empty ≡ eqb n 0 → empty ≡ fal
 not-empty empty n e f = omega (arith, eqb-false n 0 (sym e ∙ f))
 
 module _ {b before : List ℕ} {last : Option Match} {m : Match} {usable : List ℕ} {orders : List (ArrayVec ℕ)} {order : List ℕ} (a : OrderAsked b before last m usable orders order) (all : ℕ) where
-  named-of : {order' : List ℕ} → OrderedAt b before m (λ i. get_or usable i 0) order' → Named (issues_in b) order'
-  named-of o = subst (Named (issues_in b)) (sym o.names) (kept-named (issues_in b) _ o.live)
+  named-of : {order' : List ℕ} → OrderedAt b before m (λ i. get_or usable i 0) order' → NamesOnce (issues_in b) order'
+  named-of o = subst (NamesOnce (issues_in b)) (sym o.names) (kept-named (issues_in b) _ o.live)
 
   -- the order of the match before is that of match m
   pub still-listed : 0 < length order → Same last m → OrderFor b before m usable all orders order

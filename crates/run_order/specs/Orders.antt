@@ -5,9 +5,11 @@ use Rattle.lists.specs.Order.{ranked}
 use Rattle.rule.specs.Layout.{most_participants, most_issues, lots_size, runs_at, notices_at, lots_cell, row_cell}
 use Rattle.matching.specs.declared.Match.{Match}
 use Rattle.issue_order.specs.Ordered.{Ordered, order_key}
-use Rattle.filling.specs.Rows.{Named}
+use Rattle.filling.specs.Rows.{NamesOnce}
 use Rattle.filling.specs.Match.{Idle}
-use Rattle.run_order.specs.Sizes.{issues_in, Sized}
+use Rattle.layout.specs.InBook.{issues_in}
+use Rattle.run_order.specs.Sizes.{DaySized}
+use Rattle.rule.specs.Sound.{position_limit, notice_limit}
 
 -- the match before m is of the same deliverer and sort
 pub record Same (last : Option Match) (m : Match) : Type 0 where
@@ -34,7 +36,7 @@ pub record Orders (b : List ℕ) (orders : List (ArrayVec ℕ)) : Type 0 where
   pub each : (d : ℕ) → d < most_participants → 0 < length (ranking_in orders d) → RankedAt b d orders
 
 -- such a ranking, and the notified lots
-pub record Rankable (notified ranks : List ℕ) : Type 0 where
+pub record RanksAsked (notified ranks : List ℕ) : Type 0 where
   pub few : length notified ≤ most_issues
   pub already : 0 < length ranks → ranks ≡ ranked (λ i. get_or notified i 0) (length notified)
 
@@ -47,10 +49,10 @@ abbrev pub OrderedAt : List ℕ → List ℕ → Match → (ℕ → ℕ) → Lis
 OrderedAt b before m may order = Ordered (issues_in b) (key_in b before m.deliverer m.preferential) may order
 
 pub record Loadable (b before : List ℕ) (d : ℕ) (usable : List ℕ) (orders : List (ArrayVec ℕ)) : Type 0 where
-  pub sized : Sized b
+  pub sized : DaySized b
   pub usable_there : issues_in b ≤ length usable
   pub deliverer : d < most_participants
-  pub notified_most : (i : ℕ) → i < issues_in b → notified_in b d i ≤ 200_000_000
+  pub notified_most : (i : ℕ) → i < issues_in b → notified_in b d i ≤ notice_limit
   pub earlier : length before ≡ lots_size
   pub kept : Orders b orders
 
@@ -60,13 +62,13 @@ pub record Loaded (b before : List ℕ) (d : ℕ) (preferential : Bool) (usable 
 
 -- match m's order is asked for. If that of the match before lists some issue, it is m's too where the two are of the same deliverer and sort
 pub record OrderAsked (b before : List ℕ) (last : Option Match) (m : Match) (usable : List ℕ) (orders : List (ArrayVec ℕ)) (order : List ℕ) : Type 0 where
-  pub amount : m.amount.0 ≤ 10_000_000_000_000
+  pub amount : m.amount.0 ≤ position_limit
   pub loadable : Loadable b before m.deliverer usable orders
   pub last_is : 0 < length order → Same last m → OrderedAt b before m (λ i. get_or usable i 0) order
 
 -- it is match m's, or filling does not go through it and it lists no issue
 pub record OrderFor (b before : List ℕ) (m : Match) (usable : List ℕ) (all : ℕ) (orders : List (ArrayVec ℕ)) (order : List ℕ) : Type 0 where
   pub kept : Orders b orders
-  pub named : Named (issues_in b) order
+  pub named : NamesOnce (issues_in b) order
   pub fits : OrderedAt b before m (λ i. get_or usable i 0) order ⊎ Idle (get_or b runs_at 0) all m.amount.0
   pub listed : 0 < length order → OrderedAt b before m (λ i. get_or usable i 0) order

@@ -3,7 +3,7 @@
 
 ghost use Rattle.std.specs.Prelude.{◌≡◌, true, [], length, get_or};
 ghost use Rattle.lists.specs.Order.{ranked};
-ghost use Rattle.run_order.specs.Orders.{Same, Rankable, Loadable, Loaded, OrderAsked, OrderFor};
+ghost use Rattle.run_order.specs.Orders.{Same, RanksAsked, Loadable, Loaded, OrderAsked, OrderFor};
 
 use issue_order::Order;
 use matching::Match;
@@ -22,7 +22,7 @@ fn follows(last: Option<Match>, m: Match) -> bool
 // A deliverer's issues, ranked by notified lots when they are first asked for in a run: until then the ranking is empty. Not by
 // `ranking::rank`, which writes over cells that are there.
 fn rank_issues(notified: &[u64], ranks: &mut Order)
-    requires { Rankable notified.now ranks.old.items }
+    requires { RanksAsked notified.now ranks.old.items }
     ensures { ranks.new.items ≡ ranked (λ i. get_or notified.now i 0) (length notified.now) }
 {
     if !ranks.is_empty() {

@@ -9,8 +9,8 @@ use Rattle.matching.specs.declared.Match.{Match}
 use Rattle.run_post.specs.declared.listing.Lists.{Lists}
 
 -- the cells of a match
-abbrev pub entry_of : ℕ → ℕ → ℕ → ℕ → Filling → List ℕ
-entry_of k d r amount f = match_row (record {
+abbrev pub entry_cells : ℕ → ℕ → ℕ → ℕ → Filling → List ℕ
+entry_cells k d r amount f = match_row (record {
   basket = k;
   deliverer = d;
   receiver = r;
@@ -49,7 +49,7 @@ pub record SameLists (s t : Lists) : Type 0 where
 
 -- a match was written
 pub record MatchAdded (s t : Lists) (k : ℕ) (m : Match) (f : Filling) : Type 0 where
-  pub entry : t.matches.now ≡ over s.matches.now (match_size * s.counts.matches) (entry_of k m.deliverer m.receiver m.amount.0 f)
+  pub entry : t.matches.now ≡ over s.matches.now (match_size * s.counts.matches) (entry_cells k m.deliverer m.receiver m.amount.0 f)
   pub matched : t.counts.matches ≡ s.counts.matches + 1
   pub lines : t.lines.now ≡ s.lines.now
   pub line_count : t.counts.lines ≡ s.counts.lines

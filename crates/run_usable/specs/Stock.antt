@@ -11,6 +11,7 @@ use Rattle.rule.specs.Day.{term_size, terms_of, marks_of}
 use Rattle.rule.specs.Layout.{most_participants, most_issues, lots_size, participants_at, issues_at, runs_at, receipts_at, notices_at, book_length, issue_terms, lots_cell, row_cell}
 use Rattle.value.specs.Quotes.{Quotes}
 use Rattle.value.specs.declared.Quote.{Quote}
+use Rattle.rule.specs.Sound.{notice_limit}
 
 -- issue i's terms and marks in the book
 unfoldable pub terms_in : List ℕ → ℕ → Terms
@@ -67,7 +68,7 @@ pub record Usable (inside : List Bool) (allocable used : List ℕ) (quotes : Lis
   pub stock : issues ≤ length allocable
   pub gone : issues ≤ length used
   pub quotes_there : issues ≤ length quotes
-  pub allocable_most : (i : ℕ) → i < issues → get_or allocable i 0 ≤ 200_000_000
+  pub allocable_most : (i : ℕ) → i < issues → get_or allocable i 0 ≤ notice_limit
   pub enough : (i : ℕ) → i < issues → get_or inside i false ≡ true → get_or used i 0 ≤ get_or allocable i 0
 
 -- what may be used of issue i

@@ -3,7 +3,7 @@
 
 ghost use Rattle.std.specs.Prelude.{◌≡◌};
 ghost use Rattle.rule.specs.Layout.{plus, minus};
-ghost use Rattle.signed.specs.Sums.{more, less};
+ghost use Rattle.signed.specs.Sums.{cell_more, cell_less};
 
 // "Positive is owed to the clearing house, negative is due from it": the two sides of a signed cell. Two functions of a line each: one for
 // both would ask which side, and be no plainer.
@@ -21,14 +21,14 @@ pub fn due_of(cell: u64) -> u64
 
 // So much is added to it.
 pub fn more(cell: u64, n: u64) -> u64
-    ensures { result ≡ more cell n }
+    ensures { result ≡ cell_more cell n }
 {
     cell.wrapping_add(n)
 }
 
 // So much is taken from it.
 pub fn less(cell: u64, n: u64) -> u64
-    ensures { result ≡ less cell n }
+    ensures { result ≡ cell_less cell n }
 {
     cell.wrapping_sub(n)
 }

@@ -21,7 +21,8 @@ use Rattle.rule.specs.Sound.{position_limit, tradable}
 use Rattle.rule.specs.Layout.{plus, minus}
 use Rattle.ranges.specs.Ranges.{all_pass, row_passes}
 use Rattle.ranges.proofs.RangeLaws.{part-passes}
-use Rattle.sound.specs.Sized.{book_terms, book_marks, is_within, basket_fits}
+use Rattle.layout.specs.InBook.{book_terms, book_marks}
+use Rattle.sound.specs.Sized.{is_within, basket_fits}
 
 -- ---- a signed cell
 

@@ -13,7 +13,8 @@ use Rattle.rule.specs.Day.{baskets, term_size}
 use Rattle.rule.specs.Sound.{sound, sizes_fit, receipts_fit, at_most, pairs_fit, tradable, position_limit, notice_limit, tally_limit, trade_limit}
 use Rattle.rule.specs.Layout.{book_length, terms_at, receipts_at, pairs_at, positions_at, notices_at, today_at, tally_at, plus, minus, cube, view, book_fits, sound_book, most_issues, most_participants, position_row}
 use Rattle.ranges.specs.Ranges.{row_passes, terms_in_range}
-use Rattle.sound.specs.Sized.{Sized, book_terms, book_marks, is_within, while_runs, basket_fits, positions_fit, tally_fits, codes_fit, given_fits, state_within, state_fits}
+use Rattle.layout.specs.InBook.{book_terms, book_marks}
+use Rattle.sound.specs.Sized.{Sized, is_within, while_runs, basket_fits, positions_fit, tally_fits, codes_fit, given_fits, state_within, state_fits}
 use Rattle.ranges.proofs.ScanLaws.{all-and}
 
 -- ---- tests in another order

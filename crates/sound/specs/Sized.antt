@@ -1,14 +1,13 @@
 -- Soundness as tests on the book's cells, in the order in which the code looks at them. Assumes nothing.
-use Rattle.std.specs.Prelude.{◌≡◌, ℕ, ◌+◌, ◌*◌, ◌≤◌, Bool, ◌&&◌, ◌||◌, List, [], ◌∷◌, map, length, ◌==◌, nat_le, nat_lt, slice_index, slice_index_or}
+use Rattle.std.specs.Prelude.{◌≡◌, ℕ, ◌+◌, ◌*◌, ◌≤◌, Bool, ◌&&◌, ◌||◌, List, [], ◌∷◌, length, ◌==◌, nat_le, nat_lt, slice_index, slice_index_or}
 use Rattle.lists.specs.Tests.{pick, all_below, holds}
 use Rattle.lists.specs.Folds.{total}
 use Rattle.lists.specs.Parts.{block, grid}
-use Rattle.rule.specs.Value.{Terms}
-use Rattle.rule.specs.Allocable.{Marks}
 use Rattle.rule.specs.Isin.{codes_right}
-use Rattle.rule.specs.Day.{baskets, code_size, term_size, terms_of, marks_of}
+use Rattle.rule.specs.Day.{baskets, code_size}
 use Rattle.rule.specs.Sound.{all_terms_fit, receipts_fit, at_most, pairs_fit, tradable, position_limit, notice_limit, tally_limit, trade_limit}
-use Rattle.rule.specs.Layout.{most_participants, most_issues, participants_at, issues_at, runs_at, trades_at, book_length, lots_row, position_row, codes_at, terms_at, receipts_at, pairs_at, notices_at, today_at, tally_at, plus, minus, cube}
+use Rattle.rule.specs.Layout.{most_participants, most_issues, participants_at, issues_at, runs_at, trades_at, book_length, lots_row, position_row, codes_at, receipts_at, pairs_at, notices_at, today_at, tally_at, plus, minus, cube}
+use Rattle.layout.specs.InBook.{book_terms, book_marks}
 use Rattle.ranges.specs.Ranges.{row_passes}
 
 -- the book has its length, and its day's sizes are in range
@@ -16,16 +15,6 @@ pub record Sized (b : List ℕ) : Type 0 where
   pub cells : length b ≡ book_length
   pub participants : slice_index_or b participants_at 0 ≤ most_participants
   pub issues : slice_index_or b issues_at 0 ≤ most_issues
-
--- the terms and marks of the day's issues
-abbrev pub issue_rows : List ℕ → List (List ℕ)
-issue_rows b = grid b terms_at term_size (slice_index b issues_at) term_size
-
-abbrev pub book_terms : List ℕ → List Terms
-book_terms b = map terms_of (issue_rows b)
-
-abbrev pub book_marks : List ℕ → List Marks
-book_marks b = map marks_of (issue_rows b)
 
 -- a signed cell is within a limit: neither of its two sides is above it
 abbrev pub is_within : ℕ → ℕ → Bool

@@ -7,7 +7,8 @@ ghost use Rattle.rule.specs.Day.{baskets};
 ghost use Rattle.rule.specs.Sound.{position_limit, all_terms_fit, at_most, pairs_fit, tradable as tradable_of};
 ghost use Rattle.rule.specs.Layout.{participants_at, issues_at, most_issues, lots_size, square, book_length, position_row, cube, sound_book};
 ghost use Rattle.ranges.specs.Ranges.{all_pass};
-ghost use Rattle.sound.specs.Sized.{Sized, book_terms, book_marks, is_within, while_runs, basket_fits, positions_fit, tally_fits, codes_fit, given_fits, state_fits};
+ghost use Rattle.layout.specs.InBook.{book_terms, book_marks};
+ghost use Rattle.sound.specs.Sized.{Sized, is_within, while_runs, basket_fits, positions_fit, tally_fits, codes_fit, given_fits, state_fits};
 
 pub mod limits;
 

@@ -11,7 +11,7 @@ use Rattle.rule.proofs.LayoutLaws.{Readable, plus-signed, minus-signed}
 use Rattle.rule.proofs.BookLaws.{SoundBook, view-owed, view-due}
 use Rattle.rule.proofs.TradeLaws.{Tradeable}
 use Rattle.rule.proofs.TradeStored.{raise-cell, lower-cell, trade-stored}
-use Rattle.signed.specs.Sums.{more, less}
+use Rattle.signed.specs.Sums.{cell_more, cell_less}
 use Rattle.trade.specs.Positions.{Movable, moved_to, moved_of}
 use Rattle.trade.specs.Checked.{Between}
 
@@ -20,16 +20,16 @@ use Rattle.trade.specs.Checked.{Between}
 one_side : (a b : ℕ) → min (a - b) (b - a) ≡ 0
 one_side a b = omega arith
 
-sold_of : (c x : ℕ) → c < 18446744073709551616 → Movable c x → plus (more c x) ≡ plus c + x - minus c
+sold_of : (c x : ℕ) → c < 18446744073709551616 → Movable c x → plus (cell_more c x) ≡ plus c + x - minus c
 sold_of c x w m =
     ap plus (sym (raise-cell c x w m.owed m.due m.most))
     ∙ plus-signed (record { one = one_side (plus c + x) (minus c); out = omega (arith, m.owed, m.most); back = omega (arith, m.due) })
 
 -- the number that yen are added to wraps back to c
-back : (c x : ℕ) → c < 18446744073709551616 → x ≤ 1000000000000 → more (less c x) x ≡ c
+back : (c x : ℕ) → c < 18446744073709551616 → x ≤ 1000000000000 → cell_more (cell_less c x) x ≡ c
 back c x a m = omega arith
 
-bought_of : (c x : ℕ) → c < 18446744073709551616 → Movable c x → minus (less c x) ≡ minus c + x - plus c
+bought_of : (c x : ℕ) → c < 18446744073709551616 → Movable c x → minus (cell_less c x) ≡ minus c + x - plus c
 bought_of c x w m =
     ap minus (sym (lower-cell c _ x w (mod-lt _ (lit< tt)) m.owed m.due m.most (back c x w m.most)))
     ∙ minus-signed (record { one = one_side (plus c) (minus c + x); out = omega (arith, m.owed); back = omega (arith, m.due, m.most) })
@@ -54,10 +54,10 @@ module _ (b : List ℕ) (s : SoundBook b) (k p at yen : ℕ) (basket : k < 7) (p
   movable l = record { owed = omega (arith, owed-is, s.day.positions.owed k p basket of_day); due = omega (arith, due-is, s.day.positions.due k p basket of_day); most = l }
 
   -- the sides of the cells that the code writes are what the check table asks
-  pub sold-is : yen ≤ 1000000000000 → (to r : ℕ) → to ≡ more c yen → r ≡ plus to → r ≡ afterwards (cell (view b).state.owed k p) (cell (view b).state.due k p) yen
+  pub sold-is : yen ≤ 1000000000000 → (to r : ℕ) → to ≡ cell_more c yen → r ≡ plus to → r ≡ afterwards (cell (view b).state.owed k p) (cell (view b).state.due k p) yen
   sold-is l to r m e = e ∙ ap plus m ∙ sold_of c yen (s.readable.words at) (movable l) ∙ ap₂ (λ (o d : ℕ). o + yen - d) (sym owed-is) (sym due-is)
 
-  pub bought-is : yen ≤ 1000000000000 → (to r : ℕ) → to ≡ less c yen → r ≡ minus to → r ≡ afterwards (cell (view b).state.due k p) (cell (view b).state.owed k p) yen
+  pub bought-is : yen ≤ 1000000000000 → (to r : ℕ) → to ≡ cell_less c yen → r ≡ minus to → r ≡ afterwards (cell (view b).state.due k p) (cell (view b).state.owed k p) yen
   bought-is l to r m e = e ∙ ap minus m ∙ bought_of c yen (s.readable.words at) (movable l) ∙ ap₂ (λ (o d : ℕ). d + yen - o) (sym owed-is) (sym due-is)
 
 -- amounts of yen are compared as their numbers
@@ -116,7 +116,7 @@ module _ (b : List ℕ) (seller buyer k yen : ℕ) (w : Between b seller buyer k
   unfolding view
   tradeable t s u n = record { sells = w.sells; buys = w.buys; basket = w.basket; apart = w.apart; runs = w.runs; tradable = t; sold = s; bought = u; trades = n }
 
-  pub accepted-trade : (to_seller to_buyer sold bought at_seller at_buyer : ℕ) → to_seller ≡ more (get_or b at_seller 0) yen → to_buyer ≡ less (get_or b at_buyer 0) yen
+  pub accepted-trade : (to_seller to_buyer sold bought at_seller at_buyer : ℕ) → to_seller ≡ cell_more (get_or b at_seller 0) yen → to_buyer ≡ cell_less (get_or b at_buyer 0) yen
       → at_seller ≡ position_cell k seller → at_buyer ≡ position_cell k buyer → tradable k (view b).given.terms (view b).given.marks ≡ true
       → sold ≡ afterwards (cell (view b).state.owed k seller) (cell (view b).state.due k seller) yen → sold ≤ position_limit
       → bought ≡ afterwards (cell (view b).state.due k buyer) (cell (view b).state.owed k buyer) yen → bought ≤ position_limit → get_or b 3 0 < trade_limit

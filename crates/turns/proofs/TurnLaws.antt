@@ -11,7 +11,7 @@ use Rattle.value.specs.Range.{most_lots, most_yen}
 use Rattle.value.specs.Quote.{QuoteOf}
 use Rattle.value.specs.declared.Quote.{Quote}
 use Rattle.value.proofs.QuoteLaws.{some-price, worth-least, one_value, of-all}
-use Rattle.turns.specs.Turns.{besides, Part, Addable, Short, Raising, Rounding, Turned, Valued, up_to, whole_units}
+use Rattle.turns.specs.Turns.{besides, Part, Addable, NotReached, Raising, Rounding, Turned, Valued, lots_up_to, whole_units}
 use Rattle.turns.specs.Passes.{bound_of, Turnable}
 use Rattle.turns.specs.declared.Turn.{Turn}
 use Rattle.turns.specs.declared.Pass.{Pass}
@@ -44,12 +44,12 @@ module _ {q : Quote} {had reached : ℕ} (s : Part q had reached) where
 -- ---- all up to a bound, or the fewest that reach the amount
 
 -- the match has that much
-pub up_none : {had bound reached amount : ℕ} → Raising had bound reached amount → (t : Terms) → bound ≤ had → up_to t bound had reached amount ≡ had
-unfolding up_to
+pub up_none : {had bound reached amount : ℕ} → Raising had bound reached amount → (t : Terms) → bound ≤ had → lots_up_to t bound had reached amount ≡ had
+unfolding lots_up_to
 up_none p t h = omega (arith, p.bounded)
 
 -- what is short, beside the others
-module _ {q : Quote} {had reached amount : ℕ} (s : Part q had reached) (p : Short reached amount) {rest : ℕ} (o : Ensured q (λ t. besides t had reached) rest) where
+module _ {q : Quote} {had reached amount : ℕ} (s : Part q had reached) (p : NotReached reached amount) {rest : ℕ} (o : Ensured q (λ t. besides t had reached) rest) where
   rest-most : rest ≤ reached
   rest-most = of-all q (λ t r. omega (arith, o t r))
 
@@ -79,8 +79,8 @@ module _ {q : Quote} {had reached amount : ℕ} (s : Part q had reached) (p : Sh
     bound-addable = record { lots_most = b.bound_most; others_most = omega (arith, rest_below, p.amount_most) }
 
     -- all of it stays below the amount
-    pub up-all : {t : Terms} {x : Turn} → QuoteOf t q → Valued q rest bound x → x.reached.0 < amount → Turned t (besides t had reached) (up_to t bound had reached amount) x
-    unfolding up_to
+    pub up-all : {t : Terms} {x : Turn} → QuoteOf t q → Valued q rest bound x → x.reached.0 < amount → Turned t (besides t had reached) (lots_up_to t bound had reached amount) x
+    unfolding lots_up_to
     up-all {t} {x} r a low = go (dec_le (fewest t (amount - besides t had reached)) bound)
       where
         go : Dec (fewest t (amount - besides t had reached) ≤ bound) → Turned t (besides t had reached) (min bound (max had (fewest t (amount - besides t had reached)))) x
@@ -100,8 +100,8 @@ module _ {q : Quote} {had reached amount : ℕ} (s : Part q had reached) (p : Sh
         others_most = omega (arith, rest_below, p.amount_most);
       }
 
-      pub up-few : {t : Terms} {x : Turn} → QuoteOf t q → Valued q rest n x → Turned t (besides t had reached) (up_to t bound had reached amount) x
-      unfolding up_to
+      pub up-few : {t : Terms} {x : Turn} → QuoteOf t q → Valued q rest n x → Turned t (besides t had reached) (lots_up_to t bound had reached amount) x
+      unfolding lots_up_to
       up-few {t} r a =
           let k : min bound (max had (fewest t (amount - rest))) ≡ n = omega (arith, needed d e t r, few r, more r) in
           rw (← o t r, k) (a t r)
@@ -195,7 +195,7 @@ module _ {had usable reached amount : ℕ} where
 
     -- which is none
     pub remainder-none : {whole rest : ℕ} → whole ≡ usable / unit * unit → rest ≡ usable - whole → rest ≡ 0
-        → (t : Terms) → up_to t (bound_of Remainders usable had) had reached amount ≡ had
+        → (t : Terms) → lots_up_to t (bound_of Remainders usable had) had reached amount ≡ had
     remainder-none e r z t =
         let b : had ≡ bound_of Remainders usable had = omega (arith, bound-remainder e) in
         rw (← b) (up_none (raising p b (omega (arith, p.within, p.usable_most))) t (le_refl had))

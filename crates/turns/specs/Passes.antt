@@ -2,9 +2,10 @@
 use Rattle.std.specs.Prelude.{◌≡◌, ℕ, ◌+◌, ◌*◌, ◌/◌, ◌%◌, ◌≤◌}
 use Rattle.rule.specs.Value.{Terms}
 use Rattle.rule.specs.Filling.{unit, target}
-use Rattle.turns.specs.Turns.{up_to, whole_units, Short}
+use Rattle.turns.specs.Turns.{lots_up_to, whole_units, NotReached}
 use Rattle.turns.specs.declared.Pass.{Pass}
 use Rattle.turns.specs.declared.Pass.TheVariants.{Units, Remainders, Rest}
+use Rattle.rule.specs.Sound.{notice_limit}
 
 -- all that a pass may have of an issue: whole units; those that the first pass took, and the remainder; all
 abbrev pub bound_of : Pass → ℕ → ℕ → ℕ
@@ -15,8 +16,8 @@ bound_of Rest usable had = usable
 -- the lots after the turn
 abbrev pub next_of : Pass → Terms → ℕ → ℕ → ℕ → ℕ → ℕ
 next_of Units t usable had reached amount = whole_units t usable had reached (target amount)
-next_of Remainders t usable had reached amount = up_to t (bound_of Remainders usable had) had reached amount
-next_of Rest t usable had reached amount = up_to t usable had reached amount
+next_of Remainders t usable had reached amount = lots_up_to t (bound_of Remainders usable had) had reached amount
+next_of Rest t usable had reached amount = lots_up_to t usable had reached amount
 
 -- what the match has of an issue that the pass did not meet yet: none in the first, which keeps to its target; what the first took in
 -- the second
@@ -27,8 +28,8 @@ Fresh Rest had reached amount = Unit {0}
 
 -- what a turn asks
 pub record Turnable (pass : Pass) (had usable reached amount : ℕ) : Type 0 where
-  pub short : Short reached amount
+  pub short : NotReached reached amount
   pub bounded : had ≤ bound_of pass usable had
   pub within : had ≤ usable
-  pub usable_most : usable ≤ 200_000_000
+  pub usable_most : usable ≤ notice_limit
   pub fresh : Fresh pass had reached amount

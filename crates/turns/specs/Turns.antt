@@ -6,14 +6,15 @@ use Rattle.value.specs.Range.{most_lots, most_yen}
 use Rattle.value.specs.Quote.{QuoteOf}
 use Rattle.value.specs.declared.Quote.{Quote}
 use Rattle.turns.specs.declared.Turn.{Turn}
+use Rattle.rule.specs.Sound.{notice_limit}
 
 -- what the other issues are worth, where the match has `had` lots of this one and is worth `reached`
 abbrev pub besides : Terms → ℕ → ℕ → ℕ
 besides t had reached = reached - value t had
 
 -- "take all, or the fewest lots that reach the amount"
-unfoldable pub up_to : Terms → ℕ → ℕ → ℕ → ℕ → ℕ
-up_to t bound had reached amount = min bound (max had (fewest t (amount - besides t had reached)))
+unfoldable pub lots_up_to : Terms → ℕ → ℕ → ℕ → ℕ → ℕ
+lots_up_to t bound had reached amount = min bound (max had (fewest t (amount - besides t had reached)))
 
 -- "the most units of 100,000 lots that keep the match's value at or below the target"
 unfoldable pub whole_units : Terms → ℕ → ℕ → ℕ → ℕ → ℕ
@@ -23,7 +24,7 @@ whole_units t usable had reached goal = min (usable / unit) (most t (goal - besi
 
 -- no more lots than a notice may have
 pub record Few (lots : ℕ) : Type 0 where
-  pub most : lots ≤ 200_000_000
+  pub most : lots ≤ notice_limit
 
 -- the match has `had` lots of an issue of this quote, and is worth `reached`
 pub record Part (q : Quote) (had reached : ℕ) : Type 0 where
@@ -36,20 +37,20 @@ pub record Addable (others lots : ℕ) : Type 0 where
   pub others_most : others ≤ most_yen
 
 -- the match does not reach its amount
-pub record Short (reached amount : ℕ) : Type 0 where
+pub record NotReached (reached amount : ℕ) : Type 0 where
   pub below : reached < amount
   pub amount_most : amount ≤ most_yen
 
 -- and it may have up to a bound of the issue
 pub record Raising (had bound reached amount : ℕ) : Type 0 where
-  pub short : Short reached amount
+  pub short : NotReached reached amount
   pub bounded : had ≤ bound
   pub bound_most : bound ≤ most_lots
 
 -- it has none of the issue, and keeps to its target
 pub record Rounding (had usable reached goal : ℕ) : Type 0 where
   pub none : had ≡ 0
-  pub usable_most : usable ≤ 200_000_000
+  pub usable_most : usable ≤ notice_limit
   pub kept : reached ≤ goal
   pub goal_most : goal ≤ most_yen
 

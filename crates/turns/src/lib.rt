@@ -5,7 +5,7 @@ ghost use Rattle.std.specs.Prelude.{◌≡◌, ◌-◌, ◌*◌, ◌/◌};
 ghost use Rattle.rule.specs.Value.{Terms, fewest as fewest_of};
 ghost use Rattle.value.specs.Quote.{QuoteOf};
 ghost use Rattle.rule.specs.Filling.{unit};
-ghost use Rattle.turns.specs.Turns.{besides, Few, Part, Addable, up_to, whole_units, Raising, Rounding, Valued, Took, Short};
+ghost use Rattle.turns.specs.Turns.{besides, Few, Part, Addable, lots_up_to, whole_units, Raising, Rounding, Valued, Took, NotReached};
 ghost use Rattle.turns.specs.Passes.{next_of, Turnable};
 
 use quantities::{Lots, Yen};
@@ -76,7 +76,7 @@ impl Standing {
     // Where all of them stay below the amount nothing is divided.
     fn take_up_to(self, bound: Lots, amount: Yen) -> Option<Turn>
         requires { Raising self.had.0 bound.0 self.reached.0 amount.0 }
-        ensures { (t : Terms) → QuoteOf t self.quote → Took t self.had.0 self.reached.0 (up_to t bound.0 self.had.0 self.reached.0 amount.0) result }
+        ensures { (t : Terms) → QuoteOf t self.quote → Took t self.had.0 self.reached.0 (lots_up_to t bound.0 self.had.0 self.reached.0 amount.0) result }
     {
         if bound <= self.had {
             return None;
@@ -145,7 +145,7 @@ impl Standing {
 
     // "the fewest further lots of one forced issue reach the amount".
     pub fn further_lots(self, amount: Yen) -> Lots
-        requires { Short self.reached.0 amount.0 }
+        requires { NotReached self.reached.0 amount.0 }
         ensures { (t : Terms) → QuoteOf t self.quote → result.0 ≡ fewest_of t (amount.0 - besides t self.had.0 self.reached.0) - self.had.0 }
     {
         let rest = self.others();
