@@ -57,29 +57,45 @@ pub record Step (a : List ℕ) (e : Event) (b : List ℕ) : Type 0 where
   pub unforced : (view a).state.runs < 2 → (d i : ℕ) → forced_by d i e.matches ≡ 0
   pub never : e.reply ≢ refused 5
 
--- ---- a refused call
+-- ---- a call that moves nothing
 
 abbrev refusal_of : Reply → ℕ
 refusal_of accepted = 0
 refusal_of (counts m l) = 0
 refusal_of (refused n) = n
 
--- "book and lists stay", and a sound book is not called unsound
-pub refused-step : (a : List ℕ) → Words a → sound_book a ≡ true → (c : Call) (q : ℕ) → q ≢ 5 → Step a (event c (refused q) [] []) a
-unfolding sold_in bought_in delivered_in received_in lots_by forced_by is_run notified_after
-refused-step a words sound c q ne = record {
+-- no accepted trade, notice or run
+record Idle (c : Call) (reply : Reply) : Type 0 where
+  ran : pick {X = ℕ} (is_run (event c reply [] [])) 1 0 ≡ 0
+  notified : (p i before : ℕ) → notified_after p i before (event c reply [] []) ≡ before
+  sold : (k p : ℕ) → sold_in k p (event c reply [] []) ≡ 0
+  bought : (k p : ℕ) → bought_in k p (event c reply [] []) ≡ 0
+
+idle-step : (a : List ℕ) → Words a → sound_book a ≡ true → (c : Call) (reply : Reply) → reply ≢ refused 5 → Idle c reply → Step a (event c reply [] []) a
+unfolding delivered_in received_in lots_by forced_by
+idle-step a words sound c reply ne h = record {
   words = words;
   sound = sound;
   given = refl;
-  runs = omega (arith, not-ran c);
-  notices = λ p i l m. refl;
-  moved = λ k p l m. omega arith;
+  runs = omega (arith, h.ran);
+  notices = λ p i l m. sym (h.notified p i (cell (view a).state.notices p i));
+  moved = λ k p l m. omega (arith, h.sold k p, h.bought k p);
   allocable = λ d i l m. zero-le;
   no_other = λ d i o. refl;
   forced = λ d i. zero-le;
   unforced = λ l d i. refl;
-  never = λ e. ne (ap refusal_of e);
+  never = ne;
 }
+
+-- "book and lists stay", and a sound book is not called unsound
+pub refused-step : (a : List ℕ) → Words a → sound_book a ≡ true → (c : Call) (q : ℕ) → q ≢ 5 → Step a (event c (refused q) [] []) a
+unfolding sold_in bought_in is_run notified_after
+refused-step a words sound c q ne = idle-step a words sound c (refused q) (λ e. ne (ap refusal_of e)) (record {
+  ran = not-ran c;
+  notified = λ p i before. refl;
+  sold = λ k p. refl;
+  bought = λ k p. refl;
+})
   where
     not-ran : (c : Call) → pick {X = ℕ} (is_run (event c (refused q) [] [])) 1 0 ≡ 0
     not-ran (trade seller buyer k yen) = refl
@@ -143,20 +159,13 @@ module _ (b : List ℕ) (s : sound_book b ≡ true) where
 -- ---- an accepted close: "The book stays"
 
 pub closed-step : (a : List ℕ) → Words a → sound_book a ≡ true → (receipts pairs : List ℕ) → Step a (event (close receipts pairs) accepted [] []) a
-unfolding sold_in bought_in delivered_in received_in lots_by forced_by is_run notified_after
-closed-step a words sound receipts pairs = record {
-  words = words;
-  sound = sound;
-  given = refl;
-  runs = omega arith;
-  notices = λ p i l m. refl;
-  moved = λ k p l m. omega arith;
-  allocable = λ d i l m. zero-le;
-  no_other = λ d i o. refl;
-  forced = λ d i. zero-le;
-  unforced = λ l d i. refl;
-  never = λ e. omega (arith, ap refusal_of e);
-}
+unfolding sold_in bought_in is_run notified_after
+closed-step a words sound receipts pairs = idle-step a words sound (close receipts pairs) accepted (λ e. omega (arith, ap refusal_of e)) (record {
+  ran = refl;
+  notified = λ p i before. refl;
+  sold = λ k p. refl;
+  bought = λ k p. refl;
+})
 
 -- ---- an accepted trade
 
