@@ -153,6 +153,8 @@ module _ (done : List Allocation) where
       lots-tested t =
           let named : ℕ → Bool = λ q. eqb (get_or ms q no_match_entry).deliverer d in
           let lots : Bool → ℕ → ℕ = λ b q. pick b (all_lots (get_or done q no_allocation).filled i) 0 in
+          let entry : (q : ℕ) → get_or ms q no_match_entry ≡ entry_of (get_or done q no_allocation) =
+          λ q. ap (λ (l : List MatchEntry). get_or l q no_match_entry) handed ∙ get_or-map entry_of done q no_allocation in
           ap (total (λ l. pick (t l.match) (mine l) 0)) listed
           ∙ total-map (λ l. pick (t l.match) (mine l) 0) line_of (line_list done)
           ∙ total-cong (λ l. pick (t (get_or l 0 0)) (mine (line_of l)) 0) (lots_if (λ q. t q && named q) i)
@@ -160,7 +162,7 @@ module _ (done : List Allocation) where
           ∙ lines-total (λ q. t q && named q) i done inside
           ∙ total-cong (λ q. lots (t q && named q) q) (λ q. pick (t q) (lots_of (get_or done q no_allocation)) 0)
           (λ q. two-tests (t q) (named q) (all_lots (get_or done q no_allocation).filled i)
-          ∙ ap (λ (m : MatchEntry). pick (t q) (lots (eqb m.deliverer d) q) 0) (ap (λ (l : List MatchEntry). get_or l q no_match_entry) handed ∙ get_or-map entry_of done q no_allocation)) (up_to (length done))
+          ∙ ap (λ (m : MatchEntry). pick (t q) (lots (eqb m.deliverer d) q) 0) (entry q)) (up_to (length done))
 
       -- of all of them
       pub lots-by : lots_by d i ms ls ≡ lots_from done d i

@@ -151,7 +151,8 @@ module _ (y : Day) (draw : List ℕ) (h : Runnable y draw) where
       cases (yes l) (no k) = lots-out j i (inr (omega arith))
       cases (no l) k = lots-out j i (inl (omega arith))
 
-  pub handed-right : RunHolds y (allocations y draw) (length (allocations y draw)) (map entry_of (allocations y draw)) (length (line_list (allocations y draw))) (map line_of (line_list (allocations y draw)))
+  pub handed-right : let made : List Allocation = allocations y draw in
+      RunHolds y made (length made) (map entry_of made) (length (line_list made)) (map line_of (line_list made))
   handed-right = record {
     match_count = refl;
     line_count = refl;

@@ -154,7 +154,9 @@ module _ (b : List ℕ) (size : length b ≡ book_length) (words : Words b) wher
     run-view =
         let e : Bool → ℕ = λ s. refusal s (run_checks (view b) draw (length matches) (length lines)) in
         let old : Day × List (List ℕ) × List (List ℕ) = (view b, [], []) in
-        subst (λ (s : Bool). ((run_of b draw matches lines).0 ≡ (answer (e s) (run_reply done) tables old).0) × RunReadAs matches lines (run_of b draw matches lines).0 (run_of b draw matches lines).1 (answer (e s) (run_reply done) tables old).1) sound-is
+        let made : Reply × (List ℕ × List ℕ × List ℕ) = run_of b draw matches lines in
+        let read : Bool → Reply × (Day × List (List ℕ) × List (List ℕ)) = λ s. answer (e s) (run_reply done) tables old in
+        subst (λ (s : Bool). (made.0 ≡ (read s).0) × RunReadAs matches lines made.0 made.1 (read s).1) sound-is
         (both (RunReadAs matches lines) (e (sound_book b)) (run_reply done) written (b, matches, lines) tables old
         (λ z.
         let r : ◌≡◌ {A = Reply × (List ℕ × List ℕ × List ℕ)} (run_of b draw matches lines) (run_reply done, written) = answered (e (sound_book b)) (run_reply done) written (b, matches, lines) z in
@@ -176,7 +178,9 @@ module _ (b : List ℕ) (size : length b ≡ book_length) (words : Words b) wher
         let tables : List (List ℕ) × List (List (List ℕ)) = (tomorrow_receipts (view b), tomorrow_pairs (view b)) in
         let new : List ℕ × List ℕ = (over receipts 0 (joined tables.0), over pairs 0 (joined (map joined tables.1))) in
         let none : List (List ℕ) × List (List (List ℕ)) = ([], []) in
-        subst (λ (s : Bool). ((close_of b receipts pairs).0 ≡ (answer (e s) accepted tables none).0) × CloseReadAs (close_of b receipts pairs).0 (close_of b receipts pairs).1 (answer (e s) accepted tables none).1) sound-is
+        let made : Reply × (List ℕ × List ℕ) = close_of b receipts pairs in
+        let read : Bool → Reply × (List (List ℕ) × List (List (List ℕ))) = λ s. answer (e s) accepted tables none in
+        subst (λ (s : Bool). (made.0 ≡ (read s).0) × CloseReadAs made.0 made.1 (read s).1) sound-is
         (both CloseReadAs (e (sound_book b)) accepted new (receipts, pairs) tables none (λ z. (refl, refl)) (λ n. (sym (over_none receipts 0), sym (over_none pairs 0))))
 
 -- ---- of a book that is read as day y
@@ -186,8 +190,9 @@ module _ {b : List ℕ} {y : Day} (s : ReadAs b y) where
       → ((open_of n m codes terms receipts pairs b).0 ≡ (open_day y n m codes terms receipts pairs).0)
       × ReadAs (open_of n m codes terms receipts pairs b).1 (open_day y n m codes terms receipts pairs).1
   open-viewed n m codes terms receipts pairs =
-      subst (λ (x : Day). ((open_of n m codes terms receipts pairs b).0 ≡ (open_day x n m codes terms receipts pairs).0) × ReadAs (open_of n m codes terms receipts pairs b).1 (open_day x n m codes terms receipts pairs).1)
-      s.day (open-view b s.size s.words n m codes terms receipts pairs)
+      let made : Reply × List ℕ = open_of n m codes terms receipts pairs b in
+      let read : Day → Reply × Day = λ x. open_day x n m codes terms receipts pairs in
+      subst (λ (x : Day). (made.0 ≡ (read x).0) × ReadAs made.1 (read x).1) s.day (open-view b s.size s.words n m codes terms receipts pairs)
 
   pub trade-viewed : (seller buyer k yen : ℕ)
       → ((trade_of b seller buyer k yen).0 ≡ (trade_day y seller buyer k yen).0) × ReadAs (trade_of b seller buyer k yen).1 (trade_day y seller buyer k yen).1

@@ -123,11 +123,12 @@ code-small c h i l =
         go (yes k) = let q : 2 + i ≡ suc (suc i) = omega arith in subst (λ (j : ℕ). get_or c j 0 ≤ 90) q (m i k)
         go (no k) = let q : 11 ≡ suc (suc i) = omega arith in subst (λ (j : ℕ). get_or c j 0 ≤ 90) q e
 
-codes-words : (codes : List (List ℕ)) (m : ℕ) → Shape codes m 12 → codes_right codes ≡ true → Every (Every Word) codes
+codes-words : (codes : List (List ℕ)) (m : ℕ) → Shape codes m code_size → codes_right codes ≡ true → Every (Every Word) codes
 unfolding codes_right
 codes-words codes m s h =
-    most-words 90 m 12 codes (omega arith) s (λ p i l k.
-    code-small (row codes p) (all-at (λ i. is_code (get_or codes i [])) (length codes) (and_left (all_below (length codes) (λ i. is_code (get_or codes i []))) (rising codes) h) p (omega (arith, s.rows))) i k)
+    let each_is : all_below (length codes) (λ i. is_code (get_or codes i [])) ≡ true = and_left _ (rising codes) h in
+    most-words 90 m code_size codes (omega arith) s (λ p i l k.
+    code-small (row codes p) (all-at (λ i. is_code (get_or codes i [])) (length codes) each_is p (omega (arith, s.rows))) i k)
 
 terms-words : (t : Terms) (m : Marks) → terms_fit t ≡ true → marks_fit m ≡ true → Every Word (terms_row t m)
 unfolding terms_fit marks_fit

@@ -163,8 +163,10 @@ module _ (b : List ℕ) (at stride n m : ℕ) (source : List ℕ) (from apart : 
         let ws : List (ℕ × List ℕ) = rows_at 0 stride g in
         let z : at + 0 ≡ at = omega arith in
         let here : at ≤ length b = omega (arith, r.room) in
-        let inside : Every (Inside (length b - at)) ws = rows_inside (drop at b) 0 stride n m g (grid-shape source from apart n m r.source_wide r.rows) (length b - at) r.wide (omega (arith, r.room)) in
-        let same : part ≡ drop at (written b (moved at ws)) = e ∙ ap₂ (λ (x : List ℕ) (t : List (List ℕ)). written x (rows_at 0 stride t)) (take_rest b at) same-rows ∙ written-drop at ws b here inside in
+        let shape : Shape g n m = grid-shape source from apart n m r.source_wide r.rows in
+        let inside : Every (Inside (length b - at)) ws = rows_inside (drop at b) 0 stride n m g shape (length b - at) r.wide (omega (arith, r.room)) in
+        let same : part ≡ drop at (written b (moved at ws)) =
+        e ∙ ap₂ (λ (x : List ℕ) (t : List (List ℕ)). written x (rows_at 0 stride t)) (take_rest b at) same-rows ∙ written-drop at ws b here inside in
         ap (put_mid at (length b - at) b) same
         ∙ ap₂ (λ (x y : List ℕ). x ++ (drop at (written b (moved at ws)) ++ y)) (sym (written-take at ws b here inside)) (drop_of_length-le (drop at b) (omega (arith, length-drop at b)))
         ∙ ap (λ (x : List ℕ). take at (written b (moved at ws)) ++ x) (append-nil (drop at (written b (moved at ws)))) ∙ take-append-drop at (written b (moved at ws))

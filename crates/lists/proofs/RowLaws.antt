@@ -31,7 +31,9 @@ module _ (P : ℕ → ℕ → Type 0) where
   pub changed-more : {row₀ row : List ℕ} {i : ℕ} (v : ℕ) → i < length row → P i v → Changed P row₀ row i → Changed P row₀ (set row i v) (i + 1)
   changed-more {row₀} {row} {i} v h e w = record {
     size = length-set row i v ∙ w.size;
-    cells = below_more (λ k. P k (get_or (set row i v) k 0)) i (λ k l. subst (P k) (sym (get_or-set_other row i k v 0 (omega arith))) (w.cells k l)) (subst (P i) (sym (get_or-set_same row i v 0 h)) e);
+    cells = below_more (λ k. P k (get_or (set row i v) k 0)) i
+        (λ k l. subst (P k) (sym (get_or-set_other row i k v 0 (omega arith))) (w.cells k l))
+        (subst (P i) (sym (get_or-set_same row i v 0 h)) e);
     rest = λ k l. get_or-set_other row i k v 0 (omega arith) ∙ w.rest k (omega arith);
   }
 

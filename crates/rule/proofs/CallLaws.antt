@@ -157,7 +157,9 @@ module _ (b : List ℕ) (words : (j : ℕ) → get_or b j 0 < 184467440737095516
               (λ j p. j < 7 → p < y.given.participants → Signs (cell (owed2 y shape seller buyer k yen h) j p) (cell (due2 y shape seller buyer k yen h) j p))
               (λ a c. signs (owed-seller y shape seller buyer k yen h) (due-seller y shape seller buyer k yen h) (omega arith) h.sold (omega (arith, d.positions.due k seller a c)))
               (λ a c. signs (owed-buyer y shape seller buyer k yen h) (due-buyer y shape seller buyer k yen h) (omega arith) (omega (arith, d.positions.owed k buyer a c)) h.bought)
-              (λ j p ne a c. signs (owed-other y shape seller buyer k yen h j p ne) (due-other y shape seller buyer k yen h j p ne) (g.positions j p a c).one (d.positions.owed j p a c) (d.positions.due j p a c))
+              (λ j p ne a c.
+              signs (owed-other y shape seller buyer k yen h j p ne) (due-other y shape seller buyer k yen h j p ne)
+              (g.positions j p a c).one (d.positions.owed j p a c) (d.positions.due j p a c))
               j p l m;
           tally = g.tally;
         }
@@ -169,7 +171,8 @@ module _ (b : List ℕ) (words : (j : ℕ) → get_or b j 0 < 184467440737095516
   pub trade-passed : (trade_of b seller buyer k yen).0 ≡ accepted → SoundBook b × Tradeable (view b) seller buyer k yen
   unfolding trade_of
   trade-passed a =
-      let w : SoundBook b × (first (trade_checks (view b) seller buyer k yen) ≡ 0) = was-sound b words (trade_checks (view b) seller buyer k yen) (passed _ (stored b (traded (view b) seller buyer k yen)) b a) in
+      let cs : List (ℕ × Bool) = trade_checks (view b) seller buyer k yen in
+      let w : SoundBook b × (first cs ≡ 0) = was-sound b words cs (passed _ (stored b (traded (view b) seller buyer k yen)) b a) in
       (w.0, tradeable w.1)
 
   -- an accepted trade leaves a sound book, with the traded day in it

@@ -21,7 +21,7 @@ use Rattle.lists.proofs.PartLaws.{Inside, Outside, Reads, Rising, length-written
 use Rattle.rule.specs.Value.{Terms, no_terms}
 use Rattle.rule.specs.Allocable.{Marks, no_marks}
 use Rattle.rule.specs.Day.{Given, State, Day, baskets, terms_of, marks_of, code_size, term_size}
-use Rattle.rule.specs.Layout.{codes_at, terms_at, receipts_at, pairs_at, positions_at, notices_at, today_at, tally_at, book_length, plus, minus, signed, signed_rows, cube, view, terms_row, terms_rows, cube_rows, given_tables, state_tables, tables_of, stored, lots_cell, lots_row, mark_square, mark_cell, most_issues, most_participants, position_cell, position_row}
+use Rattle.rule.specs.Layout.{codes_at, terms_at, receipts_at, pairs_at, positions_at, notices_at, today_at, tally_at, book_length, plus, minus, signed, signed_rows, cube, view, terms_row, terms_rows, cube_rows, given_tables, state_tables, tables_of, stored, lots_cell, lots_row, square, mark_square, mark_cell, most_issues, most_participants, position_cell, position_row}
 
 -- ---- a signed number and its cell
 
@@ -720,30 +720,40 @@ module _ (b : List ℕ) (r : Readable b) where
 -- ---- tables that stay where their cells have not changed
 
 module _ (y : Day) (s : Shaped y) (b c : List ℕ) where
+  abbrev participants : ℕ
+  participants = y.given.participants
+
+  abbrev issues : ℕ
+  issues = y.given.issues
+
+  square-kept : (at : ℕ) (marks : List (List ℕ)) → ((j : ℕ) → at ≤ j → j < at + square → get_or c j 0 ≡ get_or b j 0)
+      → Stands b at most_participants participants participants marks → Stands c at most_participants participants participants marks
+  square-kept at marks same v = stands-agree b c at most_participants participants participants marks s.given.few (λ j l k. same j l (omega (arith, s.given.few))) v
+
   pub given-kept : ((j : ℕ) → 4 ≤ j → j < positions_at → get_or c j 0 ≡ get_or b j 0) → HoldsGiven b y.given → HoldsGiven c y.given
   given-kept same v = record {
-    codes = stands-agree b c codes_at code_size y.given.issues code_size y.given.codes (omega arith) (λ j l k. same j (omega arith) (omega (arith, s.given.most))) v.codes;
-    terms = stands-agree b c terms_at term_size y.given.issues term_size (terms_rows y.given) (omega arith) (λ j l k. same j (omega arith) (omega (arith, s.given.most))) v.terms;
-    receipts = stands-agree b c receipts_at most_issues y.given.participants y.given.issues y.given.receipts s.given.most (λ j l k. same j (omega arith) (omega (arith, s.given.few))) v.receipts;
-    pairs = λ q h. stands-agree b c (mark_square pairs_at q) most_participants y.given.participants y.given.participants (row y.given.pairs q) s.given.few (λ j l k. same j (omega arith) (omega (arith, s.given.few))) (v.pairs q h);
+    codes = stands-agree b c codes_at code_size issues code_size y.given.codes (omega arith) (λ j l k. same j (omega arith) (omega (arith, s.given.most))) v.codes;
+    terms = stands-agree b c terms_at term_size issues term_size (terms_rows y.given) (omega arith) (λ j l k. same j (omega arith) (omega (arith, s.given.most))) v.terms;
+    receipts = stands-agree b c receipts_at most_issues participants issues y.given.receipts s.given.most (λ j l k. same j (omega arith) (omega (arith, s.given.few))) v.receipts;
+    pairs = λ q h. square-kept (mark_square pairs_at q) (row y.given.pairs q) (λ j l k. same j (omega arith) (omega (arith, h))) (v.pairs q h);
   }
 
   pub positions-kept : ((j : ℕ) → positions_at ≤ j → j < notices_at → get_or c j 0 ≡ get_or b j 0) → Holds b y
-      → Stands c positions_at most_participants 7 y.given.participants (signed_rows y.state.owed y.state.due)
+      → Stands c positions_at most_participants baskets participants (signed_rows y.state.owed y.state.due)
   positions-kept same v =
-      stands-agree b c positions_at most_participants 7 y.given.participants (signed_rows y.state.owed y.state.due) s.given.few (λ j l k. same j l (omega arith)) v.positions
+      stands-agree b c positions_at most_participants baskets participants (signed_rows y.state.owed y.state.due) s.given.few (λ j l k. same j l (omega arith)) v.positions
 
   pub notices-kept : ((j : ℕ) → notices_at ≤ j → j < today_at → get_or c j 0 ≡ get_or b j 0) → Holds b y
-      → Stands c notices_at most_issues y.given.participants y.given.issues y.state.notices
+      → Stands c notices_at most_issues participants issues y.state.notices
   notices-kept same v =
-      stands-agree b c notices_at most_issues y.given.participants y.given.issues y.state.notices s.given.most (λ j l k. same j l (omega (arith, s.given.few))) v.notices
+      stands-agree b c notices_at most_issues participants issues y.state.notices s.given.most (λ j l k. same j l (omega (arith, s.given.few))) v.notices
 
   pub today-kept : ((j : ℕ) → today_at ≤ j → j < tally_at → get_or c j 0 ≡ get_or b j 0) → Holds b y
-      → (k : ℕ) → k < 7 → Stands c (mark_square today_at k) most_participants y.given.participants y.given.participants (row y.state.today k)
+      → (k : ℕ) → k < baskets → Stands c (mark_square today_at k) most_participants participants participants (row y.state.today k)
   today-kept same v q h =
-      stands-agree b c (mark_square today_at q) most_participants y.given.participants y.given.participants (row y.state.today q) s.given.few (λ j l k. same j (omega arith) (omega (arith, s.given.few))) (v.today q h)
+      square-kept (mark_square today_at q) (row y.state.today q) (λ j l k. same j (omega arith) (omega (arith, h))) (v.today q h)
 
   pub tally-kept : ((j : ℕ) → tally_at ≤ j → get_or c j 0 ≡ get_or b j 0) → Holds b y
-      → Stands c tally_at most_issues y.given.participants y.given.issues (signed_rows y.state.delivered y.state.received)
+      → Stands c tally_at most_issues participants issues (signed_rows y.state.delivered y.state.received)
   tally-kept same v =
-      stands-agree b c tally_at most_issues y.given.participants y.given.issues (signed_rows y.state.delivered y.state.received) s.given.most (λ j l k. same j l) v.tally
+      stands-agree b c tally_at most_issues participants issues (signed_rows y.state.delivered y.state.received) s.given.most (λ j l k. same j l) v.tally

@@ -100,7 +100,8 @@ module _ (b : List ℕ) (r : Readable b) (seller buyer k yen sold bought count :
         (λ l m. after-seller ∙ es ∙ sym (shown k seller l m ∙ ap₂ signed (owed-seller y s seller buyer k yen h) (due-seller y s seller buyer k yen h)))
         (λ l m. after-buyer ∙ eb ∙ sym (shown k buyer l m ∙ ap₂ signed (owed-buyer y s seller buyer k yen h) (due-buyer y s seller buyer k yen h)))
         (λ j p ne l m.
-        after-else (position_cell j p) (λ e. (ne (omega (arith, few, h.sells))).0 (omega (arith, few, h.sells))) (λ e. (ne (omega (arith, few, h.buys))).1 (omega (arith, few, h.buys))) (λ e. omega arith)
+        after-else (position_cell j p) (λ e. (ne (omega (arith, few, h.sells))).0 (omega (arith, few, h.sells)))
+        (λ e. (ne (omega (arith, few, h.buys))).1 (omega (arith, few, h.buys))) (λ e. omega arith)
         ∙ (view-holds b r).positions j p l m
         ∙ signed-cell y.state.owed y.state.due 7 y.given.participants j p s.owed l m
         ∙ sym (shown j p l m ∙ ap₂ signed (owed-other y s seller buyer k yen h j p ne) (due-other y s seller buyer k yen h j p ne)))
