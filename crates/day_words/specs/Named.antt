@@ -11,8 +11,8 @@ abbrev pub IsLetter : List ℕ → Type 0
 IsLetter word = (length word ≡ 1) × IsInRange 65 90 (slice_index word 0)
 
 -- "a word of 12 that begins with a capital"
-abbrev pub IsCode : List ℕ → Type 0
-IsCode word = (length word ≡ 12) × IsInRange 65 90 (slice_index word 0)
+abbrev pub MayBeCode : List ℕ → Type 0
+MayBeCode word = (length word ≡ 12) × IsInRange 65 90 (slice_index word 0)
 
 -- the codes that stand in bytes, one after the other
 abbrev pub codes_in : List ℕ → List (List ℕ)
@@ -33,7 +33,7 @@ NamedByCode codes word n = IsFirstPlace codes word (Some n) ⊎ (IsFirstPlace co
 
 -- "An issue is its number or its code"
 abbrev pub Names : List (List ℕ) → List ℕ → ℕ → Type 0
-Names codes word n = (IsCode word × NamedByCode codes word n) ⊎ (IsNumber word × (n ≡ digits_value 10 word))
+Names codes word n = (MayBeCode word × NamedByCode codes word n) ⊎ (IsNumber word × (n ≡ digits_value 10 word))
 
 -- "ISSUE=LOTS"
 pub record IsEntry (codes : List (List ℕ)) (word : List ℕ) (issue lots : ℕ) : Type 0 where

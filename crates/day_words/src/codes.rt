@@ -1,7 +1,7 @@
 // The codes of a day's issues.
 ghost use Rattle.std.specs.Prelude.{◌≡◌, ◌↔◌, ◌*◌, ◌%◌, ◌<◌, length, map, IfOk, IsTrue, OnErr};
 ghost use Rattle.words.specs.Lines.{IsNumber, Takes, words_left};
-ghost use Rattle.day_words.specs.Named.{IsCode, IsFirstPlace, Names, codes_in};
+ghost use Rattle.day_words.specs.Named.{MayBeCode, IsFirstPlace, Names, codes_in};
 ghost use Rattle.rule.specs.Day.{code_size};
 ghost use Rattle.rule.specs.Layout.{most_issues};
 
@@ -20,8 +20,8 @@ pub struct Codes<'a> {
 }
 
 // "a word of 12 that begins with a capital"
-fn is_code(word: &[u8]) -> bool
-    ensures { IsTrue result ↔ IsCode word.now }
+fn may_be_code(word: &[u8]) -> bool
+    ensures { IsTrue result ↔ MayBeCode word.now }
 {
     word.len() == CODE && matches!(word[0], b'A'..=b'Z')
 }
@@ -56,9 +56,9 @@ impl<'a> Codes<'a> {
     // as 32, which no issue is.
     pub fn read_issue<'w>(&self, word: &'w [u8]) -> Result<u64, Unread<'w>>
         ensures named { IfOk result (Names (codes_in self.now.bytes.now) word.now) }
-        ensures unread { OnErr result (¬ (IsCode word.now) × ¬ (IsNumber word.now)) }
+        ensures unread { OnErr result (¬ (MayBeCode word.now) × ¬ (IsNumber word.now)) }
     {
-        if is_code(word) {
+        if may_be_code(word) {
             return Ok(self.place(word).unwrap_or(MOST_ISSUES) as u64);
         }
         read_number(word, ISSUE)
