@@ -175,11 +175,11 @@ module _ (y : Day) (s : Shaped y) (seller buyer k yen : ℕ) (h : Tradeable y se
     given = z.given;
     positions = record {
       owed = λ j p l m. which (λ j p. j < 7 → p < n → cell owed2 j p ≤ position_limit)
-        (λ a b. omega (arith, owed-seller, h.sold)) (λ a b. omega (arith, owed-buyer, z.positions.owed k buyer a b))
-        (λ j p ne a b. omega (arith, owed-other j p ne, z.positions.owed j p a b)) j p l m;
-    due = λ j p l m. which (λ j p. j < 7 → p < n → cell due2 j p ≤ position_limit)
-        (λ a b. omega (arith, due-seller, z.positions.due k seller a b)) (λ a b. omega (arith, due-buyer, h.bought))
-        (λ j p ne a b. omega (arith, due-other j p ne, z.positions.due j p a b)) j p l m;
+          (λ a b. omega (arith, owed-seller, h.sold)) (λ a b. omega (arith, owed-buyer, z.positions.owed k buyer a b))
+          (λ j p ne a b. omega (arith, owed-other j p ne, z.positions.owed j p a b)) j p l m;
+      due = λ j p l m. which (λ j p. j < 7 → p < n → cell due2 j p ≤ position_limit)
+          (λ a b. omega (arith, due-seller, z.positions.due k seller a b)) (λ a b. omega (arith, due-buyer, h.bought))
+          (λ j p ne a b. omega (arith, due-other j p ne, z.positions.due j p a b)) j p l m;
       even = λ j l. evens j l (ℕ_discrete j k);
       tradable = λ j l. frees j l (ℕ_discrete j k);
     };
