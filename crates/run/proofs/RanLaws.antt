@@ -16,7 +16,7 @@ use Rattle.lists.proofs.TableLaws.{get_or-table, get_or-zeros}
 use Rattle.lists.proofs.PartLaws.{Outside, Stands}
 use mathlib.Core.Bool.{true}
 use Rattle.layout.specs.InBook.{participants_in, issues_in, issue_rows, book_terms, book_marks}
-use Rattle.rule.specs.Day.{Day, mark, terms_of}
+use Rattle.rule.specs.Day.{Day, baskets, mark, terms_of}
 use Rattle.rule.specs.Sound.{all_terms_fit}
 use Rattle.rule.specs.Run.{Allocation, used, allocations, ran, covered_from, covered_to, covered_pair, lots_from, lots_to, match_list, line_list, lines_from}
 use Rattle.rule.specs.Layout.{row_cell, book_length, positions_at, notices_at, today_at, tally_at, view, stored, signed, signed_rows, tables_of, position_cell, lots_cell, mark_cell, most_participants, most_issues, lots_size, lots_row, mark_square}
@@ -51,7 +51,7 @@ use Rattle.run_basket.proofs.NextLaws.{runnable}
 
 -- those before k are done
 pub record Baskets (b draw : List ℕ) (t₀ : Lists) (c : List ℕ) (orders : List (ArrayVec ℕ)) (used' : List ℕ) (t : Lists) (k : ℕ) : Type 0 where
-  pub here : k ≤ 7
+  pub here : k ≤ baskets
   pub done : Done b t₀.matches.now t₀.lines.now (done_to (view b) draw k) c orders used' t
   pub same : SameLists t₀ t
 
@@ -71,7 +71,7 @@ module _ (b draw : List ℕ) (stock : Stock) (t₀ : Lists) (h : BasketsAsk b dr
   }
 
   -- no deliverer's issues are ranked
-  pub baskets-none : {orders : List (ArrayVec ℕ)} → AllOfLen (λ o. o.items ≡ []) orders 12 → Baskets b draw t₀ b orders (zeros lots_size) t₀ 0
+  pub baskets-none : {orders : List (ArrayVec ℕ)} → AllOfLen (λ o. o.items ≡ []) orders most_participants → Baskets b draw t₀ b orders (zeros lots_size) t₀ 0
   baskets-none {orders} e = record {
     here = omega arith;
     done = record {
@@ -82,18 +82,18 @@ module _ (b draw : List ℕ) (stock : Stock) (t₀ : Lists) (h : BasketsAsk b dr
   }
 
   module _ {c : List ℕ} {orders : List (ArrayVec ℕ)} {used' : List ℕ} {t : Lists} {k : ℕ} (w : Baskets b draw t₀ c orders used' t k) where
-    pub basket-asked : k < 7 → BasketAsks k c draw stock orders used' t
+    pub basket-asked : k < baskets → BasketAsks k c draw stock orders used' t
     basket-asked x = record { b₀ = b; m₀ = t₀.matches.now; l₀ = t₀.lines.now; begun = record { start = h.start; basket = x; stocked = h.stocked; running = w.done.running; kept = w.done.kept } }
 
-    pub baskets-more : (x : k < 7) {c' : List ℕ} {orders' : List (ArrayVec ℕ)} {used'' : List ℕ} {t' : Lists}
+    pub baskets-more : (x : k < baskets) {c' : List ℕ} {orders' : List (ArrayVec ℕ)} {used'' : List ℕ} {t' : Lists}
         → ((s : BasketAsks k c draw stock orders used' t) → Done s.b₀ s.m₀ s.l₀ (done_to (view s.b₀) draw (k + 1)) c' orders' used'' t')
         → SameLists t t' → Baskets b draw t₀ c' orders' used'' t' (k + 1)
     unfolding basket-asked
     baskets-more x f e = record { here = omega arith; done = f (basket-asked x); same = same-then w.same e }
 
-    pub baskets-all : 7 ≤ k → BasketsDone b draw t₀.matches.now t₀.lines.now c t
+    pub baskets-all : baskets ≤ k → BasketsDone b draw t₀.matches.now t₀.lines.now c t
     baskets-all x =
-        let e : k ≡ 7 = omega (arith, w.here) in
+        let e : k ≡ baskets = omega (arith, w.here) in
         record {
           used = used';
           running = subst (λ (d : List Allocation). Running b t₀.matches.now t₀.lines.now d c used' t) (ap (done_to (view b) draw) e ∙ done_all (view b) draw) w.done.running;
@@ -116,6 +116,13 @@ module _ (b : List ℕ) (s : DaySized b) where
   m = issues_in b
 
   module _ {c : List ℕ} {p at : ℕ} (w : ClearedTo b c p) (x : p < n) (place : at ≡ lots_row notices_at p) where
+    -- the row as it is lent, and the book with a part in its place
+    abbrev lent-row : List ℕ
+    lent-row = take (at + m - at) (drop at c)
+
+    abbrev back : List ℕ → List ℕ
+    back part = put_mid at (at + m - at) c part
+
     cleared-room : at + m ≤ length c
     cleared-room = omega (arith, place, w.size, s.cells, s.participants, s.issues)
 
@@ -132,12 +139,16 @@ module _ (b : List ℕ) (s : DaySized b) where
         P : ℕ → ℕ → Type 0
         P i q = q ≡ 0
 
-        v : Becomes P (take (at + m - at) (drop at c)) part
-        v = record { size = ap length e ∙ length-replicate (length (take (at + m - at) (drop at c))) 0; cells = λ i z. ap (λ (o : List ℕ). get_or o i 0) e ∙ get_or-replicate (length (take (at + m - at) (drop at c))) i 0 0 z }
+        v : Becomes P lent-row part
+        v = record {
+          size = ap length e ∙ length-replicate (length lent-row) 0;
+          cells = λ i z. ap (λ (o : List ℕ). get_or o i 0) e ∙ get_or-replicate (length lent-row) i 0 0 z;
+        }
 
-        cases : (q i : ℕ) → q < p + 1 → i < m → Dec (q ≡ p) → get_or (put_mid at (at + m - at) c part) (lots_cell notices_at q i) 0 ≡ 0
+        cases : (q i : ℕ) → q < p + 1 → i < m → Dec (q ≡ p) → get_or (back part) (lots_cell notices_at q i) 0 ≡ 0
         cases q i y z (yes f) =
-            ap (λ (o : ℕ). get_or (put_mid at (at + m - at) c part) o 0) (ap (λ (o : ℕ). lots_cell notices_at o i) f ∙ ap (λ (o : ℕ). o + i) (sym place)) ∙ lent-in P c at m part cleared-room v i z
+            ap (λ (o : ℕ). get_or (back part) o 0) (ap (λ (o : ℕ). lots_cell notices_at o i) f ∙ ap (λ (o : ℕ). o + i) (sym place))
+            ∙ lent-in P c at m part cleared-room v i z
         cases q i y z (no f) =
             lent_out P c at m part cleared-room v (lots_cell notices_at q i) (inl (omega (arith, place, s.issues))) ∙ w.none q i (omega arith) z
 
@@ -145,6 +156,14 @@ module _ (b : List ℕ) (s : DaySized b) where
   cleared-all w y = record { size = w.size; none = λ q i x v. w.none q i (omega arith) v; kept = λ j f. w.kept j (λ q i x v. f q i (omega (arith, w.here)) v) }
 
 -- ---- the book that is left
+
+-- a table's cells are those that it was made of
+abbrev rectangle : ℕ → ℕ → (ℕ → ℕ → ℕ) → List (List ℕ)
+rectangle rows columns f = table rows (λ r. table columns (λ c. f r c))
+
+rectangle-cell : (rows columns : ℕ) (f : ℕ → ℕ → ℕ) (r c : ℕ) → r < rows → c < columns → cell (rectangle rows columns f) r c ≡ f r c
+rectangle-cell rows columns f r c l x =
+    ap (λ (o : List ℕ). get_or o c 0) (get_or-table rows (λ r. table columns (λ c. f r c)) r [] l) ∙ get_or-table columns (λ c. f r c) c 0 x
 
 module _ (b draw : List ℕ) (s : SoundBook b) (h : Runnable (view b) draw) (c d : List ℕ) (w : BookedTo b (allocations (view b) draw) c) (v : Cleared c d) where
   abbrev done : List Allocation
@@ -165,10 +184,10 @@ module _ (b draw : List ℕ) (s : SoundBook b) (h : Runnable (view b) draw) (c d
   same-m : issues_in c ≡ issues_in b
   same-m = issues-kept b s done c w
 
-  few : q ≤ 12
+  few : q ≤ most_participants
   few = s.sizes.few
 
-  most : issues_in b ≤ 32
+  most : issues_in b ≤ most_issues
   most = s.sizes.most
 
   size : length e ≡ book_length
@@ -189,23 +208,22 @@ module _ (b draw : List ℕ) (s : SoundBook b) (h : Runnable (view b) draw) (c d
   shape : Shaped (ran (view b) done)
   shape = ran-shaped (view b) draw h
 
-  positions-stand : Stands e positions_at most_participants 7 q (signed_rows (ran (view b) done).state.owed (ran (view b) done).state.due)
+  positions-stand : Stands e positions_at most_participants baskets q (signed_rows (ran (view b) done).state.owed (ran (view b) done).state.due)
   unfolding ran view
   positions-stand k p l x =
       let o : ℕ → ℕ → ℕ = λ k p. cell y.state.owed k p - covered_from done k p in
       let u : ℕ → ℕ → ℕ = λ k p. cell y.state.due k p - covered_to done k p in
       else-kept (position_cell k p) (λ z. omega arith) (λ r i z m g. omega (arith, few)) ∙ w.positions k p l x
-      ∙ sym (signed-cell (table 7 (λ k. table q (λ p. o k p))) (table 7 (λ k. table q (λ p. u k p))) 7 q k p shape.owed l x
-      ∙ ap₂ signed (ap (λ (r : List ℕ). get_or r p 0) (get_or-table 7 (λ k. table q (λ p. o k p)) k [] l) ∙ get_or-table q (λ p. o k p) p 0 x)
-      (ap (λ (r : List ℕ). get_or r p 0) (get_or-table 7 (λ k. table q (λ p. u k p)) k [] l) ∙ get_or-table q (λ p. u k p) p 0 x))
+      ∙ sym (signed-cell (rectangle baskets q o) (rectangle baskets q u) baskets q k p shape.owed l x
+      ∙ ap₂ signed (rectangle-cell baskets q o k p l x) (rectangle-cell baskets q u k p l x))
 
-  today-stand : (k : ℕ) → k < 7 → Stands e (mark_square today_at k) most_participants q q (row (ran (view b) done).state.today k)
+  today-stand : (k : ℕ) → k < baskets → Stands e (mark_square today_at k) most_participants q q (row (ran (view b) done).state.today k)
   unfolding ran view
   today-stand k l r t x z =
       let f : ℕ → ℕ → ℕ → ℕ = λ k d r. pick (ltb 0 (covered_pair done k d r)) 1 (mark y.state.today k d r) in
       else-kept (mark_cell today_at k r t) (λ g. omega arith) (λ p i m n g. omega (arith, few, most)) ∙ w.marks k r t l x z
-      ∙ sym (ap (λ (o : List (List ℕ)). cell o r t) (get_or-table 7 (λ k. table q (λ d. table q (λ r. f k d r))) k [] l)
-      ∙ ap (λ (o : List ℕ). get_or o t 0) (get_or-table q (λ d. table q (λ r. f k d r)) r [] x) ∙ get_or-table q (λ r'. f k r r') t 0 z)
+      ∙ sym (ap (λ (o : List (List ℕ)). cell o r t) (get_or-table baskets (λ k. rectangle q q (f k)) k [] l)
+      ∙ rectangle-cell q q (f k) r t x z)
 
   tally-stand : Stands e tally_at most_issues q (issues_in b) (signed_rows (ran (view b) done).state.delivered (ran (view b) done).state.received)
   unfolding ran view
@@ -213,10 +231,11 @@ module _ (b draw : List ℕ) (s : SoundBook b) (h : Runnable (view b) draw) (c d
       let out : ℕ → ℕ → ℕ = λ p i. cell y.state.delivered p i + lots_from done p i in
       let back : ℕ → ℕ → ℕ = λ p i. cell y.state.received p i + lots_to done p i in
       let n : ℕ = issues_in b in
+      let gone : ℕ → ℕ → ℕ = λ p i. out p i - back p i in
+      let come : ℕ → ℕ → ℕ = λ p i. back p i - out p i in
       else-kept (lots_cell tally_at p i) (λ g. omega arith) (λ r t m o g. omega (arith, few, most)) ∙ w.tally p i l x
-      ∙ sym (signed-cell (table q (λ p. table n (λ i. out p i - back p i))) (table q (λ p. table n (λ i. back p i - out p i))) q n p i shape.delivered l x
-      ∙ ap₂ signed (ap (λ (r : List ℕ). get_or r i 0) (get_or-table q (λ p. table n (λ i. out p i - back p i)) p [] l) ∙ get_or-table n (λ i. out p i - back p i) i 0 x)
-      (ap (λ (r : List ℕ). get_or r i 0) (get_or-table q (λ p. table n (λ i. back p i - out p i)) p [] l) ∙ get_or-table n (λ i. back p i - out p i) i 0 x))
+      ∙ sym (signed-cell (rectangle q n gone) (rectangle q n come) q n p i shape.delivered l x
+      ∙ ap₂ signed (rectangle-cell q n gone p i l x) (rectangle-cell q n come p i l x))
 
   notices-stand : Stands e notices_at most_issues q (issues_in b) (ran (view b) done).state.notices
   unfolding ran view

@@ -10,7 +10,7 @@ use lib.ListN.{length, get_or, length-map}
 use Rattle.arrayvec.specs.ArrayVec.{ArrayVec}
 use Rattle.lists.specs.Tables.{zeros}
 use Rattle.rule.specs.Run.{Allocation, basket_plan}
-use Rattle.rule.specs.Layout.{view}
+use Rattle.rule.specs.Layout.{view, most_issues}
 use Rattle.filling.specs.Match.{FilledAs}
 use Rattle.filling.specs.declared.Filling.{Filling}
 use Rattle.matching.specs.Plans.{rule_match}
@@ -57,72 +57,75 @@ module _ (B : Basket) (b₁ : List ℕ) (made : List Entry) (orders₁ : List (A
     last_is = λ s t x z. absurd (omega (arith, ap length e));
   }
 
-  pub issues-few : Asks → get_or b₁ 1 0 ≤ 32
+  pub issues-few : Asks → get_or b₁ 1 0 ≤ most_issues
   issues-few s = omega (arith, issues-kept s.b₀ s.begun.start.book _ b₁ s.begun.running.booked, s.begun.start.book.sizes.most)
 
   counted : (s : Asks) → length (basket_plan (view s.b₀) s.draw k) ≡ length made
   counted s = sym (ap length s.planning.planned) ∙ length-map made rule_match
 
-  pub allocating-all : {b : List ℕ} {orders : List (ArrayVec ℕ)} {used order : List ℕ} {t : Lists} {last : Option Entry} {usable₀ : List ℕ} {j : ℕ} → length made ≤ j → Allocating b orders used order t last usable₀ j
+  pub allocating-all : {b : List ℕ} {orders : List (ArrayVec ℕ)} {used order : List ℕ} {t : Lists} {last : Option Entry} {usable₀ : List ℕ} {j : ℕ}
+      → length made ≤ j → Allocating b orders used order t last usable₀ j
       → (s : Asks) → Done s.b₀ s.m₀ s.l₀ (done_to (view s.b₀) s.draw (k + 1)) b orders used t
   allocating-all {b} {orders} {used} {order} {t} {last} {usable₀} {j} h w s = record {
     running = subst (λ (x : List Allocation). Running s.b₀ s.m₀ s.l₀ x b used t) (done_end (view s.b₀) s.draw k j (omega (arith, counted s))) (w.running s);
     kept = w.kept s;
   }
 
-  -- ---- the lengths of what is lent stay
+  module _ {b : List ℕ} {orders : List (ArrayVec ℕ)} {used order : List ℕ} {t : Lists} {last : Option Entry} {usable₀ : List ℕ} {j : ℕ}
+      (w : Allocating b orders used order t last usable₀ j) where
+    -- ---- the lengths of what is lent stay
 
-  module _ {b : List ℕ} {orders : List (ArrayVec ℕ)} {used order : List ℕ} {t : Lists} {last : Option Entry} {usable₀ : List ℕ} {j : ℕ} (w : Allocating b orders used order t last usable₀ j) (s : Asks) where
-    -- the code has the number of issues from the book as the basket began
-    pub issues-same : get_or b₁ 1 0 ≡ issues_in b
-    issues-same = issues-kept s.b₀ s.begun.start.book _ b₁ s.begun.running.booked ∙ sym (issues-kept s.b₀ s.begun.start.book _ b (w.running s).booked)
+    module _ (s : Asks) where
+      -- the code has the number of issues from the book as the basket began
+      pub issues-same : get_or b₁ 1 0 ≡ issues_in b
+      issues-same = issues-kept s.b₀ s.begun.start.book _ b₁ s.begun.running.booked ∙ sym (issues-kept s.b₀ s.begun.start.book _ b (w.running s).booked)
 
-  -- ---- the next match
+    -- ---- the next match
 
-  module _ {b : List ℕ} {orders : List (ArrayVec ℕ)} {used order : List ℕ} {t : Lists} {last : Option Entry} {usable₀ : List ℕ} {j : ℕ} (w : Allocating b orders used order t last usable₀ j) (e : Entry) (h : j < length made) (E : e ≡ get_or made j e) where
-    pub usable-asked : Asks → UsableAsked b B e used (length usable₀)
-    usable-asked s =
-        usable-asks s.b₀ s.draw s.m₀ s.l₀ s.begun.start B s.begun.basket made s.planning j e h E s.begun.stocked
-        b used t (w.running s) (length usable₀) (w.wide ∙ issues-same w s)
+    module _ (e : Entry) (h : j < length made) (E : e ≡ get_or made j e) where
+      pub usable-asked : Asks → UsableAsked b B e used (length usable₀)
+      usable-asked s =
+          usable-asks s.b₀ s.draw s.m₀ s.l₀ s.begun.start B s.begun.basket made s.planning j e h E s.begun.stocked
+          b used t (w.running s) (length usable₀) (w.wide ∙ issues-same s)
 
-    module _ {usable : List ℕ} {all : ℕ} (U : UsableLots b B e used usable all) where
-      pub order-asked : Asks → OrderAsked b before last e usable orders order
-      order-asked s =
-          order-asks s.b₀ s.draw s.m₀ s.l₀ s.begun.start B s.begun.basket made s.planning j e h E s.begun.stocked
-          b used t (w.running s) usable all U last orders order (w.kept s) (λ x y. same y (w.last_is s x y.before y.there))
-        where
-          -- the match before is of the same deliverer and sort
-          same : (y : Same last e) → OrderedAt s.b₀ before y.before (match_may_use B used y.before.deliverer) order
-              → OrderedAt s.b₀ before e (match_may_use B used e.deliverer) order
-          same y o =
-              subst (λ (x : Bool). Ordered (issues_in s.b₀) (key_in s.b₀ before e.deliverer x) (match_may_use B used e.deliverer) order) y.sort
-              (subst (λ (x : ℕ). Ordered (issues_in s.b₀) (key_in s.b₀ before x y.before.preferential) (match_may_use B used x) order) y.deliverer o)
+      module _ {usable : List ℕ} {all : ℕ} (U : UsableLots b B e used usable all) where
+        pub order-asked : Asks → OrderAsked b before last e usable orders order
+        order-asked s =
+            order-asks s.b₀ s.draw s.m₀ s.l₀ s.begun.start B s.begun.basket made s.planning j e h E s.begun.stocked
+            b used t (w.running s) usable all U last orders order (w.kept s) (λ x y. same y (w.last_is s x y.before y.there))
+          where
+            -- the match before is of the same deliverer and sort
+            same : (y : Same last e) → OrderedAt s.b₀ before y.before (match_may_use B used y.before.deliverer) order
+                → OrderedAt s.b₀ before e (match_may_use B used e.deliverer) order
+            same y o =
+                subst (λ (x : Bool). Ordered (issues_in s.b₀) (key_in s.b₀ before e.deliverer x) (match_may_use B used e.deliverer) order) y.sort
+                (subst (λ (x : ℕ). Ordered (issues_in s.b₀) (key_in s.b₀ before x y.before.preferential) (match_may_use B used x) order) y.deliverer o)
 
-    module _ {usable : List ℕ} {all : ℕ} (U : UsableLots b B e used usable all) {orders' : List (ArrayVec ℕ)} {order' : List ℕ} (O : OrderFor b before e usable all orders' order') where
-      pub fill-asked : (lots : List ℕ) → lots ≡ zeros (issues_in b) → Asks → Fillable b B.stock e usable all order' lots
-      fill-asked lots v s =
-          fill-asks s.b₀ s.draw s.m₀ s.l₀ s.begun.start B s.begun.basket made s.planning j e h E s.begun.stocked
-          b used t (w.running s) usable all U orders' order' O lots v
+      module _ {usable : List ℕ} {all : ℕ} (U : UsableLots b B e used usable all) {orders' : List (ArrayVec ℕ)} {order' : List ℕ} (O : OrderFor b before e usable all orders' order') where
+        pub fill-asked : (lots : List ℕ) → lots ≡ zeros (issues_in b) → Asks → Fillable b B.stock e usable all order' lots
+        fill-asked lots v s =
+            fill-asks s.b₀ s.draw s.m₀ s.l₀ s.begun.start B s.begun.basket made s.planning j e h E s.begun.stocked
+            b used t (w.running s) usable all U orders' order' O lots v
 
-      module _ {f : Filling} {lots : List ℕ} (A : FilledAs (filled_in b k e usable order') f lots) where
-        pub write-asked : Asks → Writable b k e f lots used t
-        write-asked s =
-            write-asks s.b₀ s.draw s.m₀ s.l₀ s.begun.start B s.begun.basket made s.planning j e h E s.begun.stocked
-            b used t (w.running s) usable all U orders' order' O f lots A
+        module _ {f : Filling} {lots : List ℕ} (A : FilledAs (filled_in b k e usable order') f lots) where
+          pub write-asked : Asks → Writable b k e f lots used t
+          write-asked s =
+              write-asks s.b₀ s.draw s.m₀ s.l₀ s.begun.start B s.begun.basket made s.planning j e h E s.begun.stocked
+              b used t (w.running s) usable all U orders' order' O f lots A
 
-        pub allocating-more : {b' used' : List ℕ} {t' : Lists} → length usable ≡ length usable₀ → Wrote b k e f lots used t b' used' t'
-            → Allocating b' orders' used' order' t' (Some e) usable (j + 1)
-        allocating-more {b'} {used'} {t'} z₀ W = record {
-          here = omega arith;
-          wide = z₀ ∙ w.wide;
-          running = λ s.
-              running_more s.b₀ s.draw s.m₀ s.l₀ s.begun.start B s.begun.basket made s.planning j e h E s.begun.stocked
-              b used t (w.running s) usable all U orders' order' O f lots A b' used' t' W;
-          kept = λ s.
-              orders-kept s.b₀ s.draw s.m₀ s.l₀ s.begun.start B s.begun.basket made s.planning j e h E s.begun.stocked
-              b used t (w.running s) orders' O.kept;
-          same = same-then w.same W.same;
-          last_is = λ s x p z. subst (λ (q : Entry). OrderedAt s.b₀ before q (match_may_use B used' q.deliverer) order') (ap (λ (o : Option Entry). unwrap_or o e) z)
-              (order-next s.b₀ s.draw s.m₀ s.l₀ s.begun.start B s.begun.basket made s.planning j e h E s.begun.stocked
-              b used t (w.running s) usable all U orders' order' O f lots A b' used' t' W x);
-        }
+          pub allocating-more : {b' used' : List ℕ} {t' : Lists} → length usable ≡ length usable₀ → Wrote b k e f lots used t b' used' t'
+              → Allocating b' orders' used' order' t' (Some e) usable (j + 1)
+          allocating-more {b'} {used'} {t'} z₀ W = record {
+            here = omega arith;
+            wide = z₀ ∙ w.wide;
+            running = λ s.
+                running_more s.b₀ s.draw s.m₀ s.l₀ s.begun.start B s.begun.basket made s.planning j e h E s.begun.stocked
+                b used t (w.running s) usable all U orders' order' O f lots A b' used' t' W;
+            kept = λ s.
+                orders-kept s.b₀ s.draw s.m₀ s.l₀ s.begun.start B s.begun.basket made s.planning j e h E s.begun.stocked
+                b used t (w.running s) orders' O.kept;
+            same = same-then w.same W.same;
+            last_is = λ s x p z. subst (λ (q : Entry). OrderedAt s.b₀ before q (match_may_use B used' q.deliverer) order') (ap (λ (o : Option Entry). unwrap_or o e) z)
+                (order-next s.b₀ s.draw s.m₀ s.l₀ s.begun.start B s.begun.basket made s.planning j e h E s.begun.stocked
+                b used t (w.running s) usable all U orders' order' O f lots A b' used' t' W x);
+          }

@@ -16,10 +16,10 @@ use Rattle.lists.specs.Folds.{total}
 use Rattle.lists.proofs.TestLaws.{pick_yes, pick_no, go, stop, and_no}
 use Rattle.lists.proofs.FoldLaws.{total-append}
 use Rattle.rule.specs.Filling.{all_lots}
-use Rattle.rule.specs.Day.{Day, mark}
+use Rattle.rule.specs.Day.{Day, baskets, mark}
 use Rattle.rule.specs.Run.{Allocation, covered_from, covered_to, covered_pair, lots_from, lots_to}
 use Rattle.rule.specs.Sound.{position_limit, tally_limit}
-use Rattle.rule.specs.Layout.{view, signed, position_cell, lots_cell, tally_at, mark_cell, today_at}
+use Rattle.rule.specs.Layout.{view, signed, position_cell, lots_cell, tally_at, mark_cell, today_at, most_participants, most_issues}
 use Rattle.rule.proofs.BookLaws.{SoundBook}
 use Rattle.rule.proofs.LayoutLaws.{Shaped, Holds, view-shaped, view-signed, view-holds, signed-cell}
 use Rattle.rule.proofs.RunLaws.{Runnable, Allocated, covered-from, covered-to}
@@ -64,6 +64,19 @@ three-no a b c d e f h = cases (ℕ_discrete a d) (ℕ_discrete b e)
 three-yes : (a b c d e f : ℕ) → a ≡ d → b ≡ e → c ≡ f → (eqb a d && eqb b e && eqb c f) ≡ true
 three-yes a b c d e f p q r = go (eqb a d && eqb b e) (eqb c f) (both_yes a b d e p q) (eq-eqb c f r)
 
+-- matches of basket k, by participants, and what of them is covered
+abbrev delivered-by : ℕ → ℕ → Allocation → Bool
+delivered-by k p a = eqb a.basket k && eqb a.match.deliverer p
+
+abbrev received-by : ℕ → ℕ → Allocation → Bool
+received-by k p a = eqb a.basket k && eqb a.match.receiver p
+
+abbrev between : ℕ → ℕ → ℕ → Allocation → Bool
+between k d r a = eqb a.basket k && eqb a.match.deliverer d && eqb a.match.receiver r
+
+abbrev covered : Allocation → ℕ
+covered a = a.filled.covered
+
 module _ (b : List ℕ) (s : SoundBook b) where
   abbrev y : Day
   y = view b
@@ -71,10 +84,17 @@ module _ (b : List ℕ) (s : SoundBook b) where
   abbrev n : ℕ
   n = participants_in b
 
-  few : n ≤ 12
+  -- the positions, before any match
+  abbrev owed : ℕ → ℕ → ℕ
+  owed k p = cell y.state.owed k p
+
+  abbrev due : ℕ → ℕ → ℕ
+  due k p = cell y.state.due k p
+
+  few : n ≤ most_participants
   few = s.sizes.few
 
-  most : issues_in b ≤ 32
+  most : issues_in b ≤ most_issues
   most = s.sizes.most
 
   abbrev shape : Shaped (view b)
@@ -89,7 +109,7 @@ module _ (b : List ℕ) (s : SoundBook b) where
       record {
         size = s.readable.size;
         positions = λ k p l h.
-            v.positions k p l h ∙ signed-cell y.state.owed y.state.due 7 n k p shape.owed l h ∙ ap₂ signed (sym (sub-zero _)) (sym (sub-zero _));
+            v.positions k p l h ∙ signed-cell y.state.owed y.state.due baskets n k p shape.owed l h ∙ ap₂ signed (sym (sub-zero _)) (sym (sub-zero _));
         marks = λ k d r l h i. v.today k l d r h i;
         tally = λ p i h l.
             v.tally p i h l ∙ signed-cell y.state.delivered y.state.received n (issues_in b) p i shape.delivered h l
@@ -130,37 +150,37 @@ module _ (b : List ℕ) (s : SoundBook b) where
     receiver = z.receiver
 
     -- what is covered of a position, with this match, is within it
-    from-within : (k p : ℕ) → k < 7 → covered_from next k p ≤ cell y.state.owed k p
+    from-within : (k p : ℕ) → k < baskets → covered_from next k p ≤ owed k p
     unfolding covered_from
-    from-within k p l = omega (arith, part-total (view b) draw (λ a. pick (eqb a.basket k && eqb a.match.deliverer p) a.filled.covered 0) t, covered-from (view b) draw h k p l)
+    from-within k p l = omega (arith, part-total (view b) draw (λ a. pick (delivered-by k p a) (covered a) 0) t, covered-from (view b) draw h k p l)
 
-    to-within : (k p : ℕ) → k < 7 → covered_to next k p ≤ cell y.state.due k p
+    to-within : (k p : ℕ) → k < baskets → covered_to next k p ≤ due k p
     unfolding covered_to
-    to-within k p l = omega (arith, part-total (view b) draw (λ a. pick (eqb a.basket k && eqb a.match.receiver p) a.filled.covered 0) t, covered-to (view b) draw h k p l)
+    to-within k p l = omega (arith, part-total (view b) draw (λ a. pick (received-by k p a) (covered a) 0) t, covered-to (view b) draw h k p l)
 
     from-here : covered_from next K D ≡ covered_from done K D + x
     unfolding covered_from
-    from-here = more_yes (λ a. eqb a.basket K && eqb a.match.deliverer D) (λ a. a.filled.covered) done a (both_yes K D K D refl refl)
+    from-here = more_yes (delivered-by K D) covered done a (both_yes K D K D refl refl)
 
     from-else : (k p : ℕ) → (K ≡ k → D ≢ p) → covered_from next k p ≡ covered_from done k p
     unfolding covered_from
-    from-else k p e = more_no (λ a. eqb a.basket k && eqb a.match.deliverer p) (λ a. a.filled.covered) done a (both-no K D k p e)
+    from-else k p e = more_no (delivered-by k p) covered done a (both-no K D k p e)
 
     to-here : covered_to next K R ≡ covered_to done K R + x
     unfolding covered_to
-    to-here = more_yes (λ a. eqb a.basket K && eqb a.match.receiver R) (λ a. a.filled.covered) done a (both_yes K R K R refl refl)
+    to-here = more_yes (received-by K R) covered done a (both_yes K R K R refl refl)
 
     to-else : (k p : ℕ) → (K ≡ k → R ≢ p) → covered_to next k p ≡ covered_to done k p
     unfolding covered_to
-    to-else k p e = more_no (λ a. eqb a.basket k && eqb a.match.receiver p) (λ a. a.filled.covered) done a (both-no K R k p e)
+    to-else k p e = more_no (received-by k p) covered done a (both-no K R k p e)
 
     pair-here : covered_pair next K D R ≡ covered_pair done K D R + x
     unfolding covered_pair
-    pair-here = more_yes (λ a. eqb a.basket K && eqb a.match.deliverer D && eqb a.match.receiver R) (λ a. a.filled.covered) done a (three-yes K D R K D R refl refl refl)
+    pair-here = more_yes (between K D R) covered done a (three-yes K D R K D R refl refl refl)
 
     pair-else : (k d r : ℕ) → (K ≡ k → D ≡ d → R ≢ r) → covered_pair next k d r ≡ covered_pair done k d r
     unfolding covered_pair
-    pair-else k d r e = more_no (λ a. eqb a.basket k && eqb a.match.deliverer d && eqb a.match.receiver r) (λ a. a.filled.covered) done a (three-no K D R k d r e)
+    pair-else k d r e = more_no (between k d r) covered done a (three-no K D R k d r e)
 
     -- lots, with this match
     out_within : (p i : ℕ) → p < n → i < issues_in b → out_of b next p i ≤ position_limit
@@ -208,56 +228,67 @@ module _ (b : List ℕ) (s : SoundBook b) where
       lots-kept j f g = v.kept j (λ i l. f i (omega arith)) (λ i l. g i (omega arith))
 
       -- a position and a mark are none of the tally's
-      position-kept : (k p : ℕ) → k < 7 → p < n → get_or c'' (position_cell k p) 0 ≡ get_or c' (position_cell k p) 0
+      position-kept : (k p : ℕ) → k < baskets → p < n → get_or c'' (position_cell k p) 0 ≡ get_or c' (position_cell k p) 0
       position-kept k p l q = lots-kept (position_cell k p) (λ i m e. omega (arith, few)) (λ i m e. omega (arith, few))
 
-      mark-kept : (k d r : ℕ) → k < 7 → d < n → r < n → get_or c'' (mark_cell today_at k d r) 0 ≡ get_or c' (mark_cell today_at k d r) 0
+      mark-kept : (k d r : ℕ) → k < baskets → d < n → r < n → get_or c'' (mark_cell today_at k d r) 0 ≡ get_or c' (mark_cell today_at k d r) 0
       mark-kept k d r l q m = lots-kept (mark_cell today_at k d r) (λ i _ e. omega (arith, few)) (λ i _ e. omega (arith, few))
 
       -- and a tally is no position and no mark
       tally-kept : (p i : ℕ) → p < n → i < issues_in b → get_or c' (lots_cell tally_at p i) 0 ≡ get_or c (lots_cell tally_at p i) 0
-      tally-kept p i l m = u.kept (lots_cell tally_at p i) (λ e. omega (arith, few, z.basket, deliverer)) (λ e. omega (arith, few, z.basket, receiver)) (λ e. omega (arith, few, z.basket, deliverer, receiver))
+      tally-kept p i l m =
+          u.kept (lots_cell tally_at p i)
+          (λ e. omega (arith, few, z.basket, deliverer))
+          (λ e. omega (arith, few, z.basket, receiver))
+          (λ e. omega (arith, few, z.basket, deliverer, receiver))
 
       abbrev Position : ℕ → ℕ → Type 0
-      Position k p = get_or c'' (position_cell k p) 0 ≡ signed (cell y.state.owed k p - covered_from next k p) (cell y.state.due k p - covered_to next k p)
+      Position k p = get_or c'' (position_cell k p) 0 ≡ signed (owed k p - covered_from next k p) (due k p - covered_to next k p)
 
-      one : (k p : ℕ) → k < 7 → p < n → min (cell y.state.owed k p) (cell y.state.due k p) ≡ 0
+      one : (k p : ℕ) → k < baskets → p < n → min (owed k p) (due k p) ≡ 0
       unfolding view
       one k p l q = ((view-signed b s.readable).positions k p l q).one
 
-      owed-most : (k p : ℕ) → k < 7 → p < n → cell y.state.owed k p ≤ position_limit
+      owed-most : (k p : ℕ) → k < baskets → p < n → owed k p ≤ position_limit
       unfolding view
       owed-most k p l q = s.day.positions.owed k p l q
 
-      due-most : (k p : ℕ) → k < 7 → p < n → cell y.state.due k p ≤ position_limit
+      due-most : (k p : ℕ) → k < baskets → p < n → due k p ≤ position_limit
       unfolding view
       due-most k p l q = s.day.positions.due k p l q
 
       of-deliverer : Position K D
       of-deliverer =
+          let due-same : covered_to next K D ≡ covered_to done K D = to-else K D (λ e f. z.apart (sym f)) in
           position-kept K D z.basket deliverer ∙ u.from
           ∙ ap (λ (q : ℕ). (q + (18446744073709551616 - x)) % 18446744073709551616) (w.positions K D z.basket deliverer)
-          ∙ owed-less (cell y.state.owed K D) (cell y.state.due K D) (covered_from done K D) (covered_to done K D) x (one K D z.basket deliverer) (owed-most K D z.basket deliverer) (due-most K D z.basket deliverer)
-          (omega (arith, from-within K D z.basket, from-here)) (omega (arith, to-within K D z.basket, to-else K D (λ e f. z.apart (sym f))))
-          ∙ ap₂ (λ (p q : ℕ). signed (cell y.state.owed K D - p) (cell y.state.due K D - q)) (sym from-here) (sym (to-else K D (λ e f. z.apart (sym f))))
+          ∙ owed-less (owed K D) (due K D) (covered_from done K D) (covered_to done K D) x
+          (one K D z.basket deliverer) (owed-most K D z.basket deliverer) (due-most K D z.basket deliverer)
+          (omega (arith, from-within K D z.basket, from-here)) (omega (arith, to-within K D z.basket, due-same))
+          ∙ ap₂ (λ (p q : ℕ). signed (owed K D - p) (due K D - q)) (sym from-here) (sym due-same)
 
       of-receiver : Position K R
       of-receiver =
+          let owed-same : covered_from next K R ≡ covered_from done K R = from-else K R (λ e f. z.apart f) in
           position-kept K R z.basket receiver ∙ u.to
           ∙ ap (λ (q : ℕ). (q + x) % 18446744073709551616) (w.positions K R z.basket receiver)
-          ∙ due-less (cell y.state.owed K R) (cell y.state.due K R) (covered_from done K R) (covered_to done K R) x (one K R z.basket receiver) (owed-most K R z.basket receiver) (due-most K R z.basket receiver)
-          (omega (arith, from-within K R z.basket, from-else K R (λ e f. z.apart f))) (omega (arith, to-within K R z.basket, to-here))
-          ∙ ap₂ (λ (p q : ℕ). signed (cell y.state.owed K R - p) (cell y.state.due K R - q)) (sym (from-else K R (λ e f. z.apart f))) (sym to-here)
+          ∙ due-less (owed K R) (due K R) (covered_from done K R) (covered_to done K R) x
+          (one K R z.basket receiver) (owed-most K R z.basket receiver) (due-most K R z.basket receiver)
+          (omega (arith, from-within K R z.basket, owed-same)) (omega (arith, to-within K R z.basket, to-here))
+          ∙ ap₂ (λ (p q : ℕ). signed (owed K R - p) (due K R - q)) (sym owed-same) (sym to-here)
 
-      position : (k p : ℕ) → k < 7 → p < n → Position k p
+      position : (k p : ℕ) → k < baskets → p < n → Position k p
       position k p l q = cases (ℕ_discrete K k) (ℕ_discrete D p) (ℕ_discrete R p)
         where
           other : (K ≡ k → D ≢ p) → (K ≡ k → R ≢ p) → Position k p
           other f g =
               position-kept k p l q
-              ∙ u.kept (position_cell k p) (λ e. f (omega (arith, few, deliverer)) (omega (arith, few, deliverer))) (λ e. g (omega (arith, few, receiver)) (omega (arith, few, receiver))) (λ e. omega (arith, few))
+              ∙ u.kept (position_cell k p)
+              (λ e. f (omega (arith, few, deliverer)) (omega (arith, few, deliverer)))
+              (λ e. g (omega (arith, few, receiver)) (omega (arith, few, receiver)))
+              (λ e. omega (arith, few))
               ∙ w.positions k p l q
-              ∙ ap₂ (λ (i j : ℕ). signed (cell y.state.owed k p - i) (cell y.state.due k p - j)) (sym (from-else k p f)) (sym (to-else k p g))
+              ∙ ap₂ (λ (i j : ℕ). signed (owed k p - i) (due k p - j)) (sym (from-else k p f)) (sym (to-else k p g))
 
           cases : Dec (K ≡ k) → Dec (D ≡ p) → Dec (R ≡ p) → Position k p
           cases (yes e) (yes f) g = subst (λ (i : ℕ). Position i p) e (subst (λ (i : ℕ). Position K i) f of-deliverer)
@@ -274,7 +305,7 @@ module _ (b : List ℕ) (s : SoundBook b) where
           ∙ marked_more x (covered_pair done K D R) (mark y.state.today K D R)
           ∙ ap (λ (q : ℕ). pick (ltb 0 q) 1 (mark y.state.today K D R)) (sym pair-here)
 
-      marks : (k d r : ℕ) → k < 7 → d < n → r < n → Mark k d r
+      marks : (k d r : ℕ) → k < baskets → d < n → r < n → Mark k d r
       marks k d r l p q = cases (ℕ_discrete K k) (ℕ_discrete D d) (ℕ_discrete R r)
         where
           other : (K ≡ k → D ≡ d → R ≢ r) → Mark k d r
@@ -297,17 +328,25 @@ module _ (b : List ℕ) (s : SoundBook b) where
       -- the two rows are apart
       tally-out-of : (i : ℕ) → i < issues_in b → Tally D i
       tally-out-of i l =
+          let moved : ℕ = all_lots a.filled i in
+          let back-same : lots_to next D i ≡ lots_to done D i = back-else D i (λ e. z.apart (sym e)) in
+          let out-fits : out_of b done D i + moved ≤ position_limit = omega (arith, out_within D i deliverer l, out-here i) in
+          let back-fits : back_to b done D i ≤ position_limit = omega (arith, back-within D i deliverer l, back-same) in
           v.delivered i (omega arith)
           ∙ ap₂ (λ (p q : ℕ). (p + q) % 18446744073709551616) (tally-kept D i deliverer l ∙ w.tally D i deliverer l) (same i)
-          ∙ tally-out (out_of b done D i) (back_to b done D i) (all_lots a.filled i) (omega (arith, out_within D i deliverer l, out-here i)) (omega (arith, back-within D i deliverer l, back-else D i (λ e. z.apart (sym e))))
-          ∙ ap₂ (λ (p q : ℕ). signed (p - q) (q - p)) (omega (arith, out-here i)) (omega (arith, back-else D i (λ e. z.apart (sym e))))
+          ∙ tally-out (out_of b done D i) (back_to b done D i) moved out-fits back-fits
+          ∙ ap₂ (λ (p q : ℕ). signed (p - q) (q - p)) (omega (arith, out-here i)) (omega (arith, back-same))
 
       tally-back-to : (i : ℕ) → i < issues_in b → Tally R i
       tally-back-to i l =
+          let moved : ℕ = all_lots a.filled i in
+          let out-same : lots_from next R i ≡ lots_from done R i = out-else R i z.apart in
+          let out-fits : out_of b done R i ≤ position_limit = omega (arith, out_within R i receiver l, out-same) in
+          let back-fits : back_to b done R i + moved ≤ position_limit = omega (arith, back-within R i receiver l, back-here i) in
           v.received i (omega arith)
           ∙ ap₂ (λ (p q : ℕ). (p + (18446744073709551616 - q)) % 18446744073709551616) (tally-kept R i receiver l ∙ w.tally R i receiver l) (same i)
-          ∙ tally-back (out_of b done R i) (back_to b done R i) (all_lots a.filled i) (omega (arith, out_within R i receiver l, out-else R i z.apart)) (omega (arith, back-within R i receiver l, back-here i))
-          ∙ ap₂ (λ (p q : ℕ). signed (p - q) (q - p)) (omega (arith, out-else R i z.apart)) (omega (arith, back-here i))
+          ∙ tally-back (out_of b done R i) (back_to b done R i) moved out-fits back-fits
+          ∙ ap₂ (λ (p q : ℕ). signed (p - q) (q - p)) (omega (arith, out-same)) (omega (arith, back-here i))
 
       tally : (p i : ℕ) → p < n → i < issues_in b → Tally p i
       tally p i l k = cases (ℕ_discrete D p) (ℕ_discrete R p)

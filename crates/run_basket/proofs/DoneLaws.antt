@@ -12,7 +12,7 @@ use Rattle.lists.specs.Folds.{foldl, total, Every}
 use Rattle.lists.proofs.FoldLaws.{foldl-append, total-append}
 use Rattle.lists.proofs.AppendLaws.{up_to-more}
 use Rattle.rule.specs.Matching.{Match}
-use Rattle.rule.specs.Day.{Day}
+use Rattle.rule.specs.Day.{Day, baskets}
 use Rattle.rule.specs.Run.{Allocation, used_table, allocate, basket_plan, basket, allocations}
 use Rattle.run_basket.specs.Running.{done_to, done_in, done_at}
 
@@ -58,7 +58,7 @@ module _ (y : Day) (draw : List ℕ) where
   unfolding done_to
   done_none = refl
 
-  pub done_all : done_to y draw 7 ≡ allocations y draw
+  pub done_all : done_to y draw baskets ≡ allocations y draw
   unfolding done_to allocations
   done_all = refl
 
@@ -71,19 +71,19 @@ module _ (y : Day) (draw : List ℕ) where
   part-back : (xs ys : List Allocation) → Part (xs ++ ys) → Part xs
   part-back xs ys p = record { rest = ys ++ p.rest; whole = sym (append_assoc xs ys p.rest) ∙ p.whole }
 
-  part-to : (i k : ℕ) → k + i ≡ 7 → Part (done_to y draw k)
+  part-to : (i k : ℕ) → k + i ≡ baskets → Part (done_to y draw k)
   part-to zero k e = record { rest = []; whole = append-nil (done_to y draw k) ∙ ap (done_to y draw) (sym (add-zero k) ∙ e) ∙ done_all }
   part-to (suc i) k e =
       part-back (done_to y draw k) (basket y draw (used_table y.given (done_to y draw k)) k)
       (subst Part (to-more k) (part-to i (k + 1) (omega arith)))
 
   -- of basket k, the first so many
-  part_in : (k i j : ℕ) → k < 7 → j + i ≡ length (basket_plan y draw k) → Match → Part (done_at y draw k j)
-  part_in k zero j h e m = subst Part (sym (done_end k j (omega arith))) (part-to (7 - (k + 1)) (k + 1) (omega arith))
+  part_in : (k i j : ℕ) → k < baskets → j + i ≡ length (basket_plan y draw k) → Match → Part (done_at y draw k j)
+  part_in k zero j h e m = subst Part (sym (done_end k j (omega arith))) (part-to (baskets - (k + 1)) (k + 1) (omega arith))
   part_in k (suc i) j h e m =
       part-back (done_at y draw k j) (next_of k j (get_or (basket_plan y draw k) j m) ∷ []) (subst Part (done_next k j m (omega arith)) (part_in k i (j + 1) h (omega arith) m))
 
-  pub part_at : (k j : ℕ) → k < 7 → j ≤ length (basket_plan y draw k) → Match → Part (done_at y draw k j)
+  pub part_at : (k j : ℕ) → k < baskets → j ≤ length (basket_plan y draw k) → Match → Part (done_at y draw k j)
   part_at k j h l m = part_in k (length (basket_plan y draw k) - j) j h (omega arith) m
 
   -- ---- what holds of the whole holds of a part

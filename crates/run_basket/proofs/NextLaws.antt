@@ -19,7 +19,7 @@ use Rattle.rule.specs.Value.{Terms, no_terms}
 use Rattle.rule.specs.Baskets.{within}
 use Rattle.rule.specs.Matching.{Match}
 use Rattle.rule.specs.Filling.{Filled, filled, forced_issue}
-use Rattle.rule.specs.Day.{Day, terms_of, marks_of}
+use Rattle.rule.specs.Day.{Day, baskets, terms_of, marks_of}
 use Rattle.rule.specs.Run.{Allocation, used, used_table, allocable_of, usable, issue_order, allocate, basket_plan}
 use Rattle.rule.specs.Layout.{notices_at, view, lots_cell, lots_row, row_cell, runs_at}
 use Rattle.rule.proofs.LayoutLaws.{view-shaped, view-signed}
@@ -58,7 +58,7 @@ last_of : (P : Allocation → Type 0) (xs : List Allocation) (a : Allocation) �
 last_of P [] a h = h.0
 last_of P (x ∷ xs) a h = last_of P xs a h.1
 
-module _ (b draw m₀ l₀ : List ℕ) (S : Start b draw m₀ l₀) (B : Basket) (basket : B.number < 7) (made : List Entry)
+module _ (b draw m₀ l₀ : List ℕ) (S : Start b draw m₀ l₀) (B : Basket) (basket : B.number < baskets) (made : List Entry)
     (P : Planning b draw B made) (j : ℕ) (e : Entry) (l : j < length made) (E : e ≡ get_or made j e) where
   abbrev k : ℕ
   k = B.number
@@ -77,6 +77,16 @@ module _ (b draw m₀ l₀ : List ℕ) (S : Start b draw m₀ l₀) (B : Basket)
 
   abbrev done : List Allocation
   done = done_at (view b) draw k j
+
+  -- the matches of the baskets before, and the lots they used; and those of this one
+  abbrev earlier : List Allocation
+  earlier = done_to (view b) draw k
+
+  abbrev used-earlier : List (List ℕ)
+  used-earlier = used_table (view b).given earlier
+
+  abbrev of-basket : List Allocation
+  of-basket = done_in (view b) draw k j
 
   -- the match of the plan, filled
   abbrev pub next : Allocation
@@ -125,22 +135,22 @@ module _ (b draw m₀ l₀ : List ℕ) (S : Start b draw m₀ l₀) (B : Basket)
 
   module _ (T : Stocked b B.stock) (c used' : List ℕ) (t : Lists) (R : Running b m₀ l₀ done c used' t)
       (usable' : List ℕ) (all : ℕ) (U : UsableLots c B e used' usable' all) (orders : List (ArrayVec ℕ)) (order : List ℕ) (O : OrderFor c before e usable' all orders order) where
-    used-here : (i : ℕ) → i < m → get_or used' (row_cell d i) 0 ≡ cell (used_table (view b).given (done_to (view b) draw k)) d i + used (done_in (view b) draw k j) d i
+    used-here : (i : ℕ) → i < m → get_or used' (row_cell d i) 0 ≡ cell used-earlier d i + used of-basket d i
     unfolding done_at view
     used-here i h =
-        R.gone d i deliverer-of-day h ∙ used-append (done_to (view b) draw k) (done_in (view b) draw k j) d i
-        ∙ ap (λ (x : ℕ). x + used (done_in (view b) draw k j) d i) (sym (used-cell (view b).given (done_to (view b) draw k) d i deliverer-of-day h))
+        R.gone d i deliverer-of-day h ∙ used-append earlier of-basket d i
+        ∙ ap (λ (x : ℕ). x + used of-basket d i) (sym (used-cell (view b).given earlier d i deliverer-of-day h))
 
     usable-cell : (i : ℕ) → i < m
         → match_may_use B used' d i
-        ≡ pick (within k (get_or (view b).given.terms i no_terms)) (allocable_of (view b) d i - (cell (used_table (view b).given (done_to (view b) draw k)) d i + used (done_in (view b) draw k j) d i)) 0
+        ≡ pick (within k (get_or (view b).given.terms i no_terms)) (allocable_of (view b) d i - (cell used-earlier d i + used of-basket d i)) 0
     unfolding usable_of inside_of
     usable-cell i h =
         ap₂ (λ (t : Bool) (x : ℕ). pick {X = ℕ} t x 0)
         (ap (λ (r : List Bool). get_or r i false) P.inside_is ∙ get_or-table m (inside_of b k) i false h ∙ ap (within k) (sym (terms-read b i h)))
         (ap₂ (λ (x z : ℕ). x - z) (T.lots.each d i deliverer-of-day h ∙ sym (allocable-read b d i deliverer-of-day h)) (used-here i h))
 
-    usable_same : match_usable c B used' d ≡ usable (view b) k (used_table (view b).given (done_to (view b) draw k)) (done_in (view b) draw k j) d
+    usable_same : match_usable c B used' d ≡ usable (view b) k used-earlier of-basket d
     unfolding usable view
     usable_same =
         ap (λ (x : ℕ). table x (match_may_use B used' d)) (issues-kept b S.book done c R.booked)
@@ -148,13 +158,13 @@ module _ (b draw m₀ l₀ : List ℕ) (S : Start b draw m₀ l₀) (B : Basket)
 
     -- the order's keys are the definition's
     order-of : (preferential : Bool) → ranked (λ i. order_key preferential (get_or b (lots_cell notices_at d i) 0) (get_or before (row_cell d i) 0)) m
-        ≡ issue_order (view b) (used_table (view b).given (done_to (view b) draw k)) preferential d
+        ≡ issue_order (view b) used-earlier preferential d
     unfolding issue_order view
     order-of true = ranked-alike _ _ m (λ i h. sym (notices-read b d i deliverer-of-day h))
     order-of false =
         ranked-alike _ _ m (λ i h.
         ap₂ (λ (x z : ℕ). x - z) (sym (notices-read b d i deliverer-of-day h))
-        (P.before_at d i deliverer-of-day h ∙ sym (used-cell (view b).given (done_to (view b) draw k) d i deliverer-of-day h)))
+        (P.before_at d i deliverer-of-day h ∙ sym (used-cell (view b).given earlier d i deliverer-of-day h)))
 
     issues-same : issues_in c ≡ m
     issues-same = issues-kept b S.book done c R.booked
@@ -167,7 +177,7 @@ module _ (b draw m₀ l₀ : List ℕ) (S : Start b draw m₀ l₀) (B : Basket)
     pref = e.preferential
 
     abbrev o : List ℕ
-    o = issue_order (view b) (used_table (view b).given (done_to (view b) draw k)) pref d
+    o = issue_order (view b) used-earlier pref d
 
     abbrev key : ℕ → ℕ
     key = key_in b before d pref
@@ -177,7 +187,10 @@ module _ (b draw m₀ l₀ : List ℕ) (S : Start b draw m₀ l₀) (B : Basket)
         ordered-moved issues-same
         (λ i l. ap (λ (x : ℕ). order_key pref x (get_or before (row_cell d i) 0)) (notice-same i (omega (arith, issues-same)))) (λ i l. le_refl _) h
 
-    notified-same : block c (lots_row notices_at d) (issues_in c) ≡ row (view b).state.notices d
+    abbrev notified : List ℕ
+    notified = block c (lots_row notices_at d) (issues_in c)
+
+    notified-same : notified ≡ row (view b).state.notices d
     unfolding view
     notified-same =
         ap (block c (lots_row notices_at d)) issues-same
@@ -196,13 +209,17 @@ module _ (b draw m₀ l₀ : List ℕ) (S : Start b draw m₀ l₀) (B : Basket)
     abbrev amount : ℕ
     amount = e.amount.0
 
+    -- the issue that is forced
+    abbrev forced : ℕ
+    forced = forced_issue k (book_terms c) (book_marks c) notified
+
     abbrev with-order : List ℕ → Filled
-    with-order x = filled (get_or c runs_at 0) pref (book_terms c) usable' x (forced_issue k (book_terms c) (book_marks c) (block c (lots_row notices_at d) (issues_in c))) amount
+    with-order x = filled (get_or c runs_at 0) pref (book_terms c) usable' x forced amount
 
     -- an issue that the order leaves out takes nothing in its turn
     order-kept : (h : Ordered m key (λ i. get_or usable' i 0) order) → with-order (keep h.live (ranked key m)) ≡ with-order (ranked key m)
     order-kept h =
-        filled-kept (get_or c runs_at 0) pref (book_terms c) usable' (ranked key m) h.live (forced_issue k (book_terms c) (book_marks c) (block c (lots_row notices_at d) (issues_in c))) amount
+        filled-kept (get_or c runs_at 0) pref (book_terms c) usable' (ranked key m) h.live forced amount
         (every_map (λ i. i < m) (λ i. h.live i ≡ false → get_or usable' i 0 ≡ 0)
         (λ i l e. h.rest i l e) (ranked key m) (ranked-below key m))
 
@@ -213,8 +230,8 @@ module _ (b draw m₀ l₀ : List ℕ) (S : Start b draw m₀ l₀) (B : Basket)
     pub next-filled : filled_in c k e usable' order ≡ next.filled
     unfolding filled_in next_of allocate
     next-filled =
-        let u : List ℕ = usable (view b) k (used_table (view b).given (done_to (view b) draw k)) (done_in (view b) draw k j) d in
+        let u : List ℕ = usable (view b) k used-earlier of-basket d in
         order-right O.fits
-        ∙ ap₂ (λ (r : ℕ) (x : List ℕ). filled r pref (book_terms c) x o (forced_issue k (book_terms c) (book_marks c) (block c (lots_row notices_at d) (issues_in c))) amount) runs_same (U.row ∙ usable_same)
+        ∙ ap₂ (λ (r : ℕ) (x : List ℕ). filled r pref (book_terms c) x o forced amount) runs_same (U.row ∙ usable_same)
         ∙ ap (λ (f : List ℕ). filled (view b).state.runs pref (book_terms c) u o (forced_issue k (book_terms c) (book_marks c) f) amount) notified-same
         ∙ ap₂ (λ (ts : List Terms) (ms : List Marks). filled (view b).state.runs pref ts u o (forced_issue k ts ms (row (view b).state.notices d)) amount) terms-same marks-same

@@ -20,7 +20,7 @@ use Rattle.lists.proofs.PartLaws.{blocks-agree, grid-get, grid-agree}
 use Rattle.rule.specs.Value.{no_terms}
 use Rattle.rule.specs.Allocable.{allocable, Marks, no_marks}
 use Rattle.rule.specs.Matching.{plan}
-use Rattle.rule.specs.Day.{Day, terms_of, term_size, marks_of}
+use Rattle.rule.specs.Day.{Day, baskets, terms_of, term_size, marks_of}
 use Rattle.rule.specs.Run.{Allocation, used_table, allocate, basket_plan, basket, allocable_of, covered_from, covered_to}
 use Rattle.rule.specs.Layout.{terms_at, receipts_at, pairs_at, positions_at, notices_at, today_at, plus, minus, view, signed, position_cell, most_participants, most_issues, participants_at, issues_at, runs_at, issue_terms, lots_cell, position_row, mark_square}
 use Rattle.rule.proofs.BookLaws.{SoundBook}
@@ -33,6 +33,10 @@ use Rattle.run_basket.proofs.DoneLaws.{to-more}
 use Rattle.run_basket.proofs.BookedLaws.{booked-none}
 
 -- ---- the day in the cells
+
+-- yesterday's marks of basket k's pairs
+abbrev pair_marks : List ℕ → ℕ → List (List ℕ)
+pair_marks b k = grid b (mark_square pairs_at k) most_participants (participants_in b) (participants_in b)
 
 module _ (b : List ℕ) where
   issue-read : {A : Type 0} (f : List ℕ → A) (d : A) (i : ℕ) → i < issues_in b → get_or (map f (issue_rows b)) i d ≡ f (block b (issue_terms i) term_size)
@@ -74,17 +78,17 @@ module _ (b : List ℕ) where
   unfolding view
   marks-are = refl
 
-  pub plan-read : (draw : List ℕ) (k : ℕ) → k < 7 → plan_in b draw k ≡ basket_plan (view b) draw k
+  pub plan-read : (draw : List ℕ) (k : ℕ) → k < baskets → plan_in b draw k ≡ basket_plan (view b) draw k
   unfolding plan_in basket_plan view
   plan-read draw k l =
       let n : ℕ = participants_in b in
       let rows : ℕ → List ℕ = λ q. block b (position_row q) n in
-      let size : length (table 7 rows) ≡ 7 = length-table 7 rows in
-      let side : (f : ℕ → ℕ) → map f (positions_in b k) ≡ row (map (map f) (table 7 rows)) k =
-      λ f. sym (get_d_map (map f) (table 7 rows) k [] [] (omega arith) ∙ ap (map f) (get_or-table 7 rows k [] l)) in
-      ap₂ (λ (x : List ℕ) (z : List ℕ). plan (get_or b runs_at 0) (grid b (mark_square pairs_at k) most_participants n n) draw x z) (side plus) (side minus)
-      ∙ ap (λ (x : List (List ℕ)). plan (get_or b runs_at 0) x draw (row (map (map plus) (table 7 rows)) k) (row (map (map minus) (table 7 rows)) k))
-      (sym (get_or-table 7 (λ q. grid b (mark_square pairs_at q) most_participants n n) k [] l))
+      let size : length (table baskets rows) ≡ baskets = length-table baskets rows in
+      let side : (f : ℕ → ℕ) → map f (positions_in b k) ≡ row (map (map f) (table baskets rows)) k =
+      λ f. sym (get_d_map (map f) (table baskets rows) k [] [] (omega arith) ∙ ap (map f) (get_or-table baskets rows k [] l)) in
+      ap₂ (λ (x : List ℕ) (z : List ℕ). plan (get_or b runs_at 0) (pair_marks b k) draw x z) (side plus) (side minus)
+      ∙ ap (λ (x : List (List ℕ)). plan (get_or b runs_at 0) x draw (row (map (map plus) (table baskets rows)) k) (row (map (map minus) (table baskets rows)) k))
+      (sym (get_or-table baskets (λ q. grid b (mark_square pairs_at q) most_participants n n) k [] l))
 
 -- ---- what a run's bookings leave
 
@@ -133,19 +137,19 @@ module _ (b : List ℕ) (s : SoundBook b) (done : List Allocation) (c : List ℕ
   none-to k p = refl
 
   -- a basket of which nothing is covered yet
-  module _ (k : ℕ) (basket : k < 7) (fresh : (p : ℕ) → (covered_from done k p ≡ 0) × (covered_to done k p ≡ 0)) where
+  module _ (k : ℕ) (basket : k < baskets) (fresh : (p : ℕ) → (covered_from done k p ≡ 0) × (covered_to done k p ≡ 0)) where
     position-kept : (p : ℕ) → p < participants_in b → get_or c (position_cell k p) 0 ≡ get_or b (position_cell k p) 0
     position-kept p l =
         w.positions k p basket l
         ∙ ap₂ (λ (x z : ℕ). signed (cell (view b).state.owed k p - x) (cell (view b).state.due k p - z)) ((fresh p).0 ∙ sym (none_from k p)) ((fresh p).1 ∙ sym (none-to k p))
         ∙ sym ((booked-none b s).positions k p basket l)
 
-    plan-same : (draw : List ℕ) → get_or c runs_at 0 ≡ get_or b runs_at 0 → grid c (mark_square pairs_at k) most_participants (participants_in c) (participants_in c) ≡ grid b (mark_square pairs_at k) most_participants (participants_in b) (participants_in b)
+    plan-same : (draw : List ℕ) → get_or c runs_at 0 ≡ get_or b runs_at 0 → pair_marks c k ≡ pair_marks b k
         → positions_in c k ≡ positions_in b k → plan_in c draw k ≡ plan_in b draw k
     unfolding plan_in
     plan-same draw r g p =
         ap₂ (λ (x : ℕ) (z : List (List ℕ)). plan x z draw (map plus (positions_in c k)) (map minus (positions_in c k))) r g
-        ∙ ap (λ (x : List ℕ). plan (get_or b runs_at 0) (grid b (mark_square pairs_at k) most_participants (participants_in b) (participants_in b)) draw (map plus x) (map minus x)) p
+        ∙ ap (λ (x : List ℕ). plan (get_or b runs_at 0) (pair_marks b k) draw (map plus x) (map minus x)) p
 
     pub plan-kept : (draw : List ℕ) → plan_in c draw k ≡ basket_plan (view b) draw k
     plan-kept draw =
@@ -153,10 +157,13 @@ module _ (b : List ℕ) (s : SoundBook b) (done : List Allocation) (c : List ℕ
         let n : ℕ = participants_in b in
         let positions : positions_in c k ≡ positions_in b k =
         ap (block c (position_row k)) participants-kept ∙ blocks-agree c b (position_row k) n e (λ p l. position-kept p l) in
-        plan-same draw (low-kept runs_at (omega arith))
-        (ap (λ (q : ℕ). grid c (mark_square pairs_at k) most_participants q q) participants-kept
-        ∙ grid-agree c b (mark_square pairs_at k) most_participants n n (λ p l. blocks-agree c b (mark_square pairs_at k + most_participants * p) n e (λ i m. low-kept (mark_square pairs_at k + most_participants * p + i) (omega (arith, s.sizes.few)))))
-        positions
+        let square : ℕ = mark_square pairs_at k in
+        let pair : ℕ → ℕ → ℕ = λ p i. square + most_participants * p + i in
+        let pairs : pair_marks c k ≡ pair_marks b k =
+        ap (λ (q : ℕ). grid c square most_participants q q) participants-kept
+        ∙ grid-agree c b square most_participants n n
+        (λ p l. blocks-agree c b (square + most_participants * p) n e (λ i m. low-kept (pair p i) (omega (arith, s.sizes.few)))) in
+        plan-same draw (low-kept runs_at (omega arith)) pairs positions
         ∙ plan-read b draw k basket
 
 -- ---- the baskets before k have covered nothing of basket k
@@ -197,4 +204,6 @@ module _ (y : Day) (draw : List ℕ) where
   pub nothing-covered : (k p : ℕ) → (covered_from (done_to y draw k) k p ≡ 0) × (covered_to (done_to y draw k) k p ≡ 0)
   unfolding covered_from covered_to
   nothing-covered k p =
-      (no-sum k (λ a. a.filled.covered) (λ a. a.match.deliverer) p (done_to y draw k) (before-basket k), no-sum k (λ a. a.filled.covered) (λ a. a.match.receiver) p (done_to y draw k) (before-basket k))
+      let none : (side : Allocation → ℕ) → total (λ a. pick (eqb a.basket k && eqb (side a) p) a.filled.covered 0) (done_to y draw k) ≡ 0 =
+      λ side. no-sum k (λ a. a.filled.covered) side p (done_to y draw k) (before-basket k) in
+      (none (λ a. a.match.deliverer), none (λ a. a.match.receiver))

@@ -18,12 +18,14 @@ use Rattle.lists.specs.Parts.{over}
 use Rattle.lists.proofs.TestLaws.{go}
 use Rattle.lists.proofs.TableLaws.{length-table, get_or-table}
 use Rattle.lists.proofs.PartLaws.{length_over}
-use Rattle.rule.specs.Day.{terms_of}
+use Rattle.rule.specs.Day.{baskets, terms_of}
 use Rattle.rule.specs.Value.{Terms}
+use Rattle.rule.specs.Entries.{match_size, line_size}
+use Rattle.rule.specs.Calls.{most_matches, most_lines}
 use Rattle.rule.specs.Filling.{Filled, all_lots}
 use Rattle.rule.specs.Allocable.{allocable}
-use Rattle.rule.specs.Run.{Allocation, used, allocate, lots_from, match_entry, line_list, lines_of, lines_from}
-use Rattle.rule.specs.Layout.{receipts_at, notices_at, view, lots_cell, row_cell, runs_at}
+use Rattle.rule.specs.Run.{Allocation, used, allocate, lots_from, match_entry, match_list, line_list, lines_of, lines_from}
+use Rattle.rule.specs.Layout.{receipts_at, notices_at, view, lots_cell, row_cell, runs_at, most_participants}
 use Rattle.rule.proofs.RunLaws.{Runnable, Allocated, matched-from, few-allocations}
 use Rattle.rule.proofs.RunLots.{used-most, lots-from-most}
 use Rattle.rule.proofs.RunLists.{few_lines}
@@ -44,7 +46,7 @@ use Rattle.run_match.specs.declared.Basket.{Basket}
 use Rattle.run_match.specs.Filled.{match_may_use, QuotesOf, UsableAsked, UsableLots, Fillable, filled_in, lots_with, Writable, Wrote}
 use Rattle.run_order.proofs.OrderLaws.{orders-moved}
 use Rattle.run_post.specs.declared.listing.Lists.{Lists}
-use Rattle.run_basket.specs.Running.{done_at, Start, Running, Stocked, Planning}
+use Rattle.run_basket.specs.Running.{done_at, BookedTo, Start, Running, Stocked, Planning}
 use Rattle.run_basket.proofs.DoneLaws.{next_of, Part, part-total, part_length}
 use Rattle.run_basket.proofs.BookedLaws.{booked-more, more_yes, more_no}
 use Rattle.run_basket.proofs.ReadLaws.{notices-read, allocable-read, sized-kept, issues-kept, rows-kept, notices-kept}
@@ -66,7 +68,7 @@ usable-falls inside allocable used used' h = cases inside
 pub usable-wide : {c : List ℕ} {B : Basket} {e : Entry} {used usable : List ℕ} {all : ℕ} → UsableLots c B e used usable all → length usable ≡ issues_in c
 usable-wide {c} {B} {e} {used} U = ap length U.row ∙ length-table (issues_in c) (match_may_use B used e.deliverer)
 
-module _ (b draw m₀ l₀ : List ℕ) (S : Start b draw m₀ l₀) (B : Basket) (basket : B.number < 7) (made : List Entry)
+module _ (b draw m₀ l₀ : List ℕ) (S : Start b draw m₀ l₀) (B : Basket) (basket : B.number < baskets) (made : List Entry)
     (P : Planning b draw B made) (j : ℕ) (e : Entry) (l : j < length made) (E : e ≡ get_or made j e) (T : Stocked b B.stock) where
   abbrev k : ℕ
   k = B.number
@@ -92,10 +94,13 @@ module _ (b draw m₀ l₀ : List ℕ) (S : Start b draw m₀ l₀) (B : Basket)
   abbrev a : Allocation
   a = next b draw m₀ l₀ S B basket made P j e l E
 
+  abbrev after : List Allocation
+  after = done ++ (a ∷ [])
+
   h : Runnable (view b) draw
   h = runnable b draw m₀ l₀ S
 
-  part : Part (view b) draw (done ++ (a ∷ []))
+  part : Part (view b) draw after
   part = next-part b draw m₀ l₀ S B basket made P j e l E
 
   z : Allocated (view b) a
@@ -106,6 +111,12 @@ module _ (b draw m₀ l₀ : List ℕ) (S : Start b draw m₀ l₀) (B : Basket)
 
   receiver : r < participants_in b
   receiver = receiver-of-day b draw m₀ l₀ S B basket made P j e l E
+
+  of-deliverer : a.match.deliverer ≡ d
+  of-deliverer = next-deliverer b draw m₀ l₀ S B basket made P j e l E
+
+  of-receiver : a.match.receiver ≡ r
+  of-receiver = next-receiver b draw m₀ l₀ S B basket made P j e l E
 
   amount : e.amount.0 ≡ a.match.amount
   amount = sym (next-amount b draw m₀ l₀ S B basket made P j e l E)
@@ -139,17 +150,17 @@ module _ (b draw m₀ l₀ : List ℕ) (S : Start b draw m₀ l₀) (B : Basket)
         lots-notified i q,
       )
 
-  used-more : (i : ℕ) → used (done ++ (a ∷ [])) d i ≡ used done d i + get_or a.filled.lots i 0
+  used-more : (i : ℕ) → used after d i ≡ used done d i + get_or a.filled.lots i 0
   unfolding used
   used-more i =
       more_yes (λ x. eqb x.match.deliverer d) (λ x. get_or x.filled.lots i 0) done a
-      (eq-eqb a.match.deliverer d (next-deliverer b draw m₀ l₀ S B basket made P j e l E))
+      (eq-eqb a.match.deliverer d of-deliverer)
 
-  used-else : (p i : ℕ) → d ≢ p → used (done ++ (a ∷ [])) p i ≡ used done p i
+  used-else : (p i : ℕ) → d ≢ p → used after p i ≡ used done p i
   unfolding used
   used-else p i other =
       more_no (λ x. eqb x.match.deliverer p) (λ x. get_or x.filled.lots i 0) done a
-      (ne_eqb a.match.deliverer p (λ q. other (sym (next-deliverer b draw m₀ l₀ S B basket made P j e l E) ∙ q)))
+      (ne_eqb a.match.deliverer p (λ q. other (sym of-deliverer ∙ q)))
 
   used-within : (i : ℕ) → i < m → used done d i + get_or a.filled.lots i 0 ≤ allocable_in b d i
   unfolding used view
@@ -173,21 +184,21 @@ module _ (b draw m₀ l₀ : List ℕ) (S : Start b draw m₀ l₀) (B : Basket)
   lots-few i q =
       omega (
         arith,
-        more_yes (λ x. eqb x.match.deliverer d) (λ x. all_lots x.filled i) done a (eq-eqb a.match.deliverer d (next-deliverer b draw m₀ l₀ S B basket made P j e l E)),
+        more_yes (λ x. eqb x.match.deliverer d) (λ x. all_lots x.filled i) done a (eq-eqb a.match.deliverer d of-deliverer),
         part-total (view b) draw (λ x. pick (eqb x.match.deliverer d) (all_lots x.filled i) 0) part,
         lots-from-most (view b) draw h d i deliverer q,
       )
 
-  matches-few : length done + 1 ≤ 77
+  matches-few : length done + 1 ≤ most_matches
   matches-few = omega (arith, part_length (view b) draw part, length-append done (a ∷ []), few-allocations (view b) draw h)
 
-  lines-few : length (line_list (done ++ (a ∷ []))) ≤ 2464
+  lines-few : length (line_list after) ≤ most_lines
   lines-few =
       omega (
         arith,
         ap (λ (x : List Allocation). length (line_list x)) part.whole,
-        ap length (lines-append (done ++ (a ∷ [])) part.rest),
-        length-append (line_list (done ++ (a ∷ []))) (lines_from (length (done ++ (a ∷ []))) part.rest),
+        ap length (lines-append after part.rest),
+        length-append (line_list after) (lines_from (length after) part.rest),
         few_lines (view b) draw h,
       )
 
@@ -205,10 +216,10 @@ module _ (b draw m₀ l₀ : List ℕ) (S : Start b draw m₀ l₀) (B : Basket)
     issues-same : issues_in c ≡ m
     issues-same = issues-kept b S.book done c R.booked
 
-    notice-same : (p i : ℕ) → p < 12 → i < m → notified_in c p i ≡ notified_in b p i
+    notice-same : (p i : ℕ) → p < most_participants → i < m → notified_in c p i ≡ notified_in b p i
     notice-same p i y x = notices-kept b S.book done c R.booked (lots_cell notices_at p i) (omega arith) (omega (arith, S.book.sizes.most))
 
-    deliverer-few : d < 12
+    deliverer-few : d < most_participants
     deliverer-few = omega (arith, deliverer, S.book.sizes.few)
 
     quotes-same : QuotesOf c B.stock
@@ -295,7 +306,7 @@ module _ (b draw m₀ l₀ : List ℕ) (S : Start b draw m₀ l₀) (B : Basket)
         used-at : (i : ℕ) → i < m → get_or used' (row_cell d i) 0 ≡ used done d i
         used-at i x = R.gone d i deliverer x
 
-        lines_fit : 3 * length (line_list done) + 3 * length (lines_of (length done) a) ≤ 7392
+        lines_fit : line_size * length (line_list done) + line_size * length (lines_of (length done) a) ≤ line_size * most_lines
         lines_fit = omega (arith, lines-few, ap length (lines_more done a), length-append (line_list done) (lines_of (length done) a))
 
         pub write-asks : Writable c k e f lots used' t
@@ -307,7 +318,7 @@ module _ (b draw m₀ l₀ : List ℕ) (S : Start b draw m₀ l₀) (B : Basket)
             book = R.booked.size;
             deliverer = omega (arith, deliverer, S.book.sizes.few);
             receiver = omega (arith, receiver, S.book.sizes.few);
-            apart = λ x. z.apart (next-deliverer b draw m₀ l₀ S B basket made P j e l E ∙ x ∙ sym (next-receiver b draw m₀ l₀ S B basket made P j e l E));
+            apart = λ x. z.apart (of-deliverer ∙ x ∙ sym of-receiver);
             few = omega (arith, row-size, S.book.sizes.most);
             gone = R.places;
             small = λ i x. omega (arith, used-at i (omega (arith, row-size)), used-few i (omega (arith, row-size)), all_is i, lots-few i (omega (arith, row-size, issues)));
@@ -337,23 +348,26 @@ module _ (b draw m₀ l₀ : List ℕ) (S : Start b draw m₀ l₀) (B : Basket)
           unfolding next_of allocate match_entry
           entry = entry-is a.filled f lots F k d r e.amount.0
 
-          gone : (p i : ℕ) → p < participants_in b → i < m → get_or used'' (row_cell p i) 0 ≡ used (done ++ (a ∷ [])) p i
+          gone : (p i : ℕ) → p < participants_in b → i < m → get_or used'' (row_cell p i) 0 ≡ used after p i
           gone p i x v = cases (ℕ_discrete d p)
             where
-              cases : Dec (d ≡ p) → get_or used'' (row_cell p i) 0 ≡ used (done ++ (a ∷ [])) p i
+              cases : Dec (d ≡ p) → get_or used'' (row_cell p i) 0 ≡ used after p i
               cases (yes e) =
-                  subst (λ (o : ℕ). get_or used'' (row_cell o i) 0 ≡ used (done ++ (a ∷ [])) o i) e
+                  subst (λ (o : ℕ). get_or used'' (row_cell o i) 0 ≡ used after o i) e
                   (W.gone.more i (omega (arith, row-size)) ∙ ap₂ (λ (o w : ℕ). o + w) (used-at i v) (ap (λ (v : List ℕ). get_or v i 0) F.lots_are) ∙ sym (used-more i))
               cases (no e) =
                   W.gone.kept (row_cell p i) (λ o w s. e (omega (arith, row-size, S.book.sizes.most))) ∙ R.gone p i x v ∙ sym (used-else p i e)
 
-          -- less may be used than before, so that the order is still right
+          -- more is used, so that less may be used than before, and the order is still right
+          used-grows : (i : ℕ) → i < m → get_or used' (row_cell d i) 0 ≤ get_or used'' (row_cell d i) 0
+          used-grows i x = omega (arith, W.gone.more i (omega (arith, row-size)))
+
           less-usable : (i : ℕ) → i < m → match_may_use B used'' d i ≤ get_or usable' i 0
           less-usable i x =
               omega (
                 arith,
                 usable_at usable' all U i (omega (arith, issues-same)),
-                usable-falls (get_or B.inside.now i false) (get_or B.stock.allocable.now (row_cell d i) 0) (get_or used' (row_cell d i) 0) (get_or used'' (row_cell d i) 0) (omega (arith, W.gone.more i (omega (arith, row-size)))),
+                usable-falls (get_or B.inside.now i false) (get_or B.stock.allocable.now (row_cell d i) 0) _ _ (used-grows i x),
               )
 
           pub order-next : 0 < length order → OrderedAt b before e (match_may_use B used'' d) order
@@ -361,18 +375,47 @@ module _ (b draw m₀ l₀ : List ℕ) (S : Start b draw m₀ l₀) (B : Basket)
               ordered-moved issues-same (λ i v. ap (λ (w : ℕ). order_key pref w (get_or before (row_cell d i) 0)) (notice-same d i deliverer-few (omega (arith, issues-same))))
               (λ i v. less-usable i (omega (arith, issues-same))) (O.listed x)
 
+          -- the lists stay as long as they are, and have the match's entry and its lines
+          matches-long : length t'.matches.now ≡ length m₀
+          matches-long =
+              ap length W.entry
+              ∙ length_over t.matches.now (entry_cells k d r e.amount.0 f) (match_size * t.counts.matches) (omega (arith, write-asks.match_room))
+              ∙ R.match_size
+
+          abbrev new-lines : List (List ℕ)
+          new-lines = lines_for t.counts.matches (lots_with f lots)
+
+          lines-long : length t'.lines.now ≡ length l₀
+          lines-long =
+              let room : line_size * t.counts.lines + length (joined new-lines) ≤ length t.lines.now =
+              omega (arith, write-asks.lots_asked.room, cells-for t.counts.matches (lots_with f lots)) in
+              ap length W.listed.cells ∙ length_over t.lines.now (joined new-lines) (line_size * t.counts.lines) room ∙ R.line_size
+
+          entries-after : t'.matches.now ≡ over m₀ 0 (joined (match_list after))
+          entries-after =
+              entries-more m₀ t.matches.now t'.matches.now done a t.counts.matches R.entries R.match_count (omega (arith, matches-few, S.match_places))
+              (W.entry ∙ ap (over t.matches.now (match_size * t.counts.matches)) entry)
+
+          lines-after : (t'.lines.now ≡ over l₀ 0 (joined (line_list after))) × (t'.counts.lines ≡ length (line_list after))
+          lines-after =
+              rows_more l₀ t.lines.now t'.lines.now done a t.counts.matches t.counts.lines t'.counts.lines (lots_with f lots)
+              R.rows R.match_count R.line_count (omega (arith, lines_fit, S.line_places)) lines-is W.listed
+
+          booked-after : BookedTo b after c'
+          booked-after =
+              booked-more b S.book draw h done a part z c W.between c' (lots_with f lots) R.booked yen moved
+              (all-size a.filled f lots F forced ∙ issues) all_is
+
           pub running_more : Running b m₀ l₀ (done_at (view b) draw k (j + 1)) c' used'' t'
           running_more =
-              let both : (t'.lines.now ≡ over l₀ 0 (joined (line_list (done ++ (a ∷ []))))) × (t'.counts.lines ≡ length (line_list (done ++ (a ∷ [])))) =
-              rows_more l₀ t.lines.now t'.lines.now done a t.counts.matches t.counts.lines t'.counts.lines (lots_with f lots) R.rows R.match_count R.line_count (omega (arith, lines_fit, S.line_places)) lines-is W.listed in
               subst (λ (x : List Allocation). Running b m₀ l₀ x c' used'' t') (sym (next-is b draw m₀ l₀ S B basket made P j e l E)) (record {
-                booked = booked-more b S.book draw h done a part z c W.between c' (lots_with f lots) R.booked yen moved (all-size a.filled f lots F forced ∙ issues) all_is;
+                booked = booked-after;
                 places = W.gone.size ∙ R.places;
                 gone = gone;
-                match_size = ap length W.entry ∙ length_over t.matches.now (entry_cells k d r e.amount.0 f) (7 * t.counts.matches) (omega (arith, write-asks.match_room)) ∙ R.match_size;
-                line_size = ap length W.listed.cells ∙ length_over t.lines.now (joined (lines_for t.counts.matches (lots_with f lots))) (3 * t.counts.lines) (omega (arith, write-asks.lots_asked.room, cells-for t.counts.matches (lots_with f lots))) ∙ R.line_size;
-                entries = entries-more m₀ t.matches.now t'.matches.now done a t.counts.matches R.entries R.match_count (omega (arith, matches-few, S.match_places)) (W.entry ∙ ap (over t.matches.now (7 * t.counts.matches)) entry);
-                rows = both.0;
+                match_size = matches-long;
+                line_size = lines-long;
+                entries = entries-after;
+                rows = lines-after.0;
                 match_count = W.matched ∙ omega (arith, R.match_count, length-append done (a ∷ []));
-                line_count = both.1;
+                line_count = lines-after.1;
               })

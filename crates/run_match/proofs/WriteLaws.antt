@@ -29,8 +29,12 @@ module _ {b used : List ℕ} {s : Lists} {m : Entry} {f : Filling} {lots : List 
   abbrev further : ℕ
   further = f.forced_lots.0
 
+  -- the forced issue's lots, the forced ones with them
+  abbrev forced-all : ℕ
+  forced-all = get_or lots f.forced 0 + further
+
   size-with : length (lots_with f lots) ≡ length lots
-  size-with = length-set lots f.forced (get_or lots f.forced 0 + further)
+  size-with = length-set lots f.forced forced-all
 
   -- the deliverer's row, as far as there are lots
   abbrev width : ℕ
@@ -65,33 +69,36 @@ module _ {b used : List ℕ} {s : Lists} {m : Entry} {f : Filling} {lots : List 
     place-fits = omega (arith, size-used, h.gone, h.deliverer, h.forced, h.few)
 
     -- the forced issue's lots used, the forced ones with them
-    forced-is : get_or u place 0 ≡ get_or used place 0 + (get_or lots f.forced 0 + further)
+    forced-is : get_or u place 0 ≡ get_or used place 0 + forced-all
     forced-is =
         lent-in With used row width part row-fits used-with f.forced (omega (arith, size-with, h.forced))
-        ∙ ap (λ (x : ℕ). get_or used place 0 + x) (get_or-set_same lots f.forced (get_or lots f.forced 0 + further) 0 h.forced)
+        ∙ ap (λ (x : ℕ). get_or used place 0 + x) (get_or-set_same lots f.forced forced-all 0 h.forced)
+
+    abbrev unforced : ℕ
+    unforced = get_or u place 0 - further
 
     abbrev used' : List ℕ
-    used' = set u place (get_or u place 0 - further)
+    used' = set u place unforced
 
     without-forced : UsedBy used used' m.deliverer lots
     without-forced = record {
-      size = length-set u place (get_or u place 0 - further) ∙ size-used;
+      size = length-set u place unforced ∙ size-used;
       more = λ i l. cases i l (ℕ_discrete i f.forced);
       kept = λ q e.
-          get_or-set_other u place q (get_or u place 0 - further) 0 (e f.forced h.forced)
+          get_or-set_other u place q unforced 0 (e f.forced h.forced)
           ∙ lent_out With used row width part row-fits used-with q (where-is q row width (λ i l. e i (omega (arith, size-with))));
     }
       where
         cases : (i : ℕ) → i < length lots → Dec (i ≡ f.forced) → get_or used' (row + i) 0 ≡ get_or used (row + i) 0 + get_or lots i 0
         cases i l (yes e) =
             ap (λ (x : ℕ). get_or used' (row + x) 0) e
-            ∙ get_or-set_same u place (get_or u place 0 - further) 0 place-fits
+            ∙ get_or-set_same u place unforced 0 place-fits
             ∙ omega (arith, forced-is)
             ∙ ap (λ (x : ℕ). get_or used (row + x) 0 + get_or lots x 0) (sym e)
         cases i l (no d) =
-            get_or-set_other u place (row + i) (get_or u place 0 - further) 0 (λ e. d (omega arith))
+            get_or-set_other u place (row + i) unforced 0 (λ e. d (omega arith))
             ∙ lent-in With used row width part row-fits used-with i (omega (arith, size-with))
-            ∙ ap (λ (x : ℕ). get_or used (row + i) 0 + x) (get_or-set_other lots f.forced i (get_or lots f.forced 0 + further) 0 d)
+            ∙ ap (λ (x : ℕ). get_or used (row + i) 0 + x) (get_or-set_other lots f.forced i forced-all 0 d)
 
     row-written : LotsWritten b used s m f lots b' used' t
     row-written = record { gone = without-forced; listed = w.listed; moved = w.moved; only = w.only }
@@ -112,7 +119,8 @@ module _ {b used : List ℕ} {s : Lists} {m : Entry} {f : Filling} {lots : List 
 
 -- ---- the match after its lots
 
-module _ {b between used : List ℕ} {k : ℕ} {s t : Lists} {m : Entry} {f : Filling} {lots b' used' : List ℕ} (h : Writable b k m f lots used s) (y : YenMoved b between k m.deliverer m.receiver f.covered.0)
+module _ {b between used : List ℕ} {k : ℕ} {s t : Lists} {m : Entry} {f : Filling} {lots b' used' : List ℕ}
+    (h : Writable b k m f lots used s) (y : YenMoved b between k m.deliverer m.receiver f.covered.0)
     (w : LotsWritten between used s m f lots b' used' t) where
   pub match-room : MatchRoom t.matches.now t.counts.matches
   match-room = record { places = omega (arith, h.match_room, w.only.match_count, w.only.same.match_places); small = omega (arith, h.match_few, w.only.match_count) }

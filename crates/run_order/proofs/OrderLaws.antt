@@ -23,7 +23,7 @@ use Rattle.lists.proofs.PartLaws.{block-get, length-block}
 use Rattle.lists.proofs.AppendLaws.{up_to-more}
 use Rattle.lists.proofs.OrderLaws.{ranked-alike}
 use Rattle.lists.specs.Parts.{block}
-use Rattle.rule.specs.Layout.{notices_at, lots_row, row_start}
+use Rattle.rule.specs.Layout.{notices_at, lots_row, row_start, most_participants, most_issues}
 use Rattle.filling.specs.Rows.{NamesOnce}
 use Rattle.filling.proofs.OnceLaws.{kept-named}
 use Rattle.ranking.specs.Ranks.{Sortable}
@@ -44,7 +44,7 @@ numbered-none [] e = record { items = refl }
 numbered-none (x ∷ xs) e = absurd (omega (arith, e))
 
 module _ {ranks : List ℕ} {i : ℕ} (w : NumberedTo ranks i) where
-  pub numbered-room : i < 32 → length ranks < 32
+  pub numbered-room : i < most_issues → length ranks < most_issues
   numbered-room l = omega (arith, ap length w.items, length_from 0 i)
 
   pub numbered-more : {ranks' : List ℕ} → ranks' ≡ ranks ++ (i ∷ []) → NumberedTo ranks' (i + 1)
@@ -93,7 +93,7 @@ module _ {b before : List ℕ} {d : ℕ} {usable : List ℕ} {orders : List (Arr
       own_row = ap (λ (o : ArrayVec ℕ). o.items) (get_or-set_same orders d own (record { items = [] }) deliverer-there) ∙ e ∙ ranks-are
 
       -- the other rankings are as before
-      other_row : (p : ℕ) → p ≢ d → p < 12 → 0 < length (ranking_in back p) → RankedAt b p back
+      other_row : (p : ℕ) → p ≢ d → p < most_participants → 0 < length (ranking_in back p) → RankedAt b p back
       other_row p x y l =
           let same : ranking_in back p ≡ ranking_in orders p = ap (λ (o : ArrayVec ℕ). o.items) (get_or-set_other orders d p own (record { items = [] }) x) in
           same ∙ L.kept.each p y (omega (arith, ap length same))
@@ -101,7 +101,7 @@ module _ {b before : List ℕ} {d : ℕ} {usable : List ℕ} {orders : List (Arr
       kept : Orders b back
       kept = record { places = length-set orders d own ∙ L.kept.places; each = λ p y l. go p y l (ℕ_discrete p d) }
         where
-          go : (p : ℕ) → p < 12 → 0 < length (ranking_in back p) → Dec (p ≡ d) → RankedAt b p back
+          go : (p : ℕ) → p < most_participants → 0 < length (ranking_in back p) → Dec (p ≡ d) → RankedAt b p back
           go p y l (yes x) = subst (λ (q : ℕ). RankedAt b q back) (sym x) own_row
           go p y l (no x) = other_row p x y l
 
@@ -147,11 +147,14 @@ module _ {b before : List ℕ} {last : Option Match} {m : Match} {usable : List 
 -- ---- the rows of a run
 
 -- none is ranked where a run begins
-pub orders-begin : (b : List ℕ) (orders : List (ArrayVec ℕ)) → length orders ≡ 12 → ((d : ℕ) → d < 12 → ranking_in orders d ≡ []) → Orders b orders
+pub orders-begin : (b : List ℕ) (orders : List (ArrayVec ℕ)) → length orders ≡ most_participants → ((d : ℕ) → d < most_participants → ranking_in orders d ≡ [])
+    → Orders b orders
 orders-begin b orders l e = record { places = l; each = λ d x s. absurd (omega (arith, ap length (e d x))) }
 
 -- a book with the same notices has the same rankings
-pub orders-moved : (b c : List ℕ) {orders : List (ArrayVec ℕ)} → issues_in b ≡ issues_in c → ((d i : ℕ) → d < 12 → i < issues_in b → notified_in b d i ≡ notified_in c d i) → Orders b orders → Orders c orders
+pub orders-moved : (b c : List ℕ) {orders : List (ArrayVec ℕ)} → issues_in b ≡ issues_in c
+    → ((d i : ℕ) → d < most_participants → i < issues_in b → notified_in b d i ≡ notified_in c d i)
+    → Orders b orders → Orders c orders
 orders-moved b c e same o = record {
   places = o.places;
   each = λ d x l.

@@ -8,6 +8,7 @@ use Rattle.lists.specs.Parts.{over}
 use Rattle.lists.proofs.TestLaws.{pick_yes, pick_no}
 use Rattle.lists.proofs.PartLaws.{length_over}
 use Rattle.lists.proofs.AppendLaws.{map-append, keep_append, joined-append, joined_length, up_to-more, over_none, over-more}
+use Rattle.rule.specs.Entries.{line_size}
 use Rattle.run_post.specs.declared.listing.Lists.{Lists}
 use Rattle.run_post.specs.Listed.{line_for, lines_to, lines_for, LineRoom, SameLists, Lined, LinesRoom, Listed}
 
@@ -29,24 +30,24 @@ same-then a b = record {
 pub lined-none : (b : List ℕ) (line number i : ℕ) {lots : ℕ} → lots ≡ 0 → Lined b b line number i lots line
 lined-none b line number i z = record { some = λ h. absurd (omega arith); none = λ h. (refl, refl) }
 
-pub lined-some : {b c : List ℕ} (line number i : ℕ) {lots count : ℕ} → lots ≢ 0 → c ≡ over b (3 * line) (number ∷ i ∷ lots ∷ []) → count ≡ line + 1
+pub lined-some : {b c : List ℕ} (line number i : ℕ) {lots count : ℕ} → lots ≢ 0 → c ≡ over b (line_size * line) (number ∷ i ∷ lots ∷ []) → count ≡ line + 1
     → Lined b c line number i lots count
 lined-some line number i {lots} z e n = record { some = λ p. (e, n); none = λ p. absurd (z (omega arith)) }
 
 -- ---- the lines of a match
 
-lines-three : (number : ℕ) (lots is : List ℕ) → Every (λ r. length r ≡ 3) (map (line_for number lots) is)
+lines-three : (number : ℕ) (lots is : List ℕ) → Every (λ r. length r ≡ line_size) (map (line_for number lots) is)
 lines-three number lots [] = tt
 lines-three number lots (i ∷ is) = (refl, lines-three number lots is)
 
 -- the cells of the first n issues' lines
-cells_of : (number : ℕ) (lots : List ℕ) (n : ℕ) → length (joined (lines_to number lots n)) ≡ 3 * length (lines_to number lots n)
+cells_of : (number : ℕ) (lots : List ℕ) (n : ℕ) → length (joined (lines_to number lots n)) ≡ line_size * length (lines_to number lots n)
 unfolding lines_to
 cells_of number lots n =
     let is : List ℕ = keep (λ i. ltb 0 (get_or lots i 0)) (up_to n) in
-    joined_length 3 (map (line_for number lots) is) (lines-three number lots is)
+    joined_length line_size (map (line_for number lots) is) (lines-three number lots is)
 
-pub cells-for : (number : ℕ) (lots : List ℕ) → length (joined (lines_for number lots)) ≡ 3 * length (lines_for number lots)
+pub cells-for : (number : ℕ) (lots : List ℕ) → length (joined (lines_for number lots)) ≡ line_size * length (lines_for number lots)
 unfolding lines_for
 cells-for number lots = cells_of number lots (length lots)
 
@@ -87,16 +88,16 @@ module _ (entry : List ℕ) (first number : ℕ) (lots : List ℕ) where
   pub record ListedTo (lines : List ℕ) (line i : ℕ) : Type 0 where
     pub here : i ≤ length lots
     pub size : length lines ≡ length entry
-    pub cells : lines ≡ over entry (3 * first) (joined (lines_to number lots i))
+    pub cells : lines ≡ over entry (line_size * first) (joined (lines_to number lots i))
     pub counted : line ≡ first + length (lines_to number lots i)
 
   pub listed-none : ListedTo entry first 0
   unfolding lines_to
-  listed-none = record { here = omega arith; size = refl; cells = sym (over_none entry (3 * first)); counted = omega arith }
+  listed-none = record { here = omega arith; size = refl; cells = sym (over_none entry (line_size * first)); counted = omega arith }
 
   module _ (h : LinesRoom entry first number lots) {lines : List ℕ} {line i : ℕ} (w : ListedTo lines line i) (l : i < length lots) where
     -- as many lines as there are with issue i's
-    listed-room : (n : ℕ) → length (lines_to number lots (i + 1)) ≡ n → 3 * (first + n) ≤ length entry
+    listed-room : (n : ℕ) → length (lines_to number lots (i + 1)) ≡ n → line_size * (first + n) ≤ length entry
     unfolding lines_for
     listed-room n e =
         omega (arith, h.places, fewer number lots (i + 1) (length lots - (i + 1)), ap (λ (k : ℕ). length (lines_to number lots k)) (rest (length lots) i l))
@@ -107,7 +108,7 @@ module _ (entry : List ℕ) (first number : ℕ) (lots : List ℕ) where
     one_more : 0 < get_or lots i 0 → length (lines_to number lots (i + 1)) ≡ length (lines_to number lots i) + 1
     one_more some = ap length (more-some number lots i some) ∙ length-append (lines_to number lots i) (line_for number lots i ∷ [])
 
-    room : 0 < get_or lots i 0 → 3 * (line + 1) ≤ length lines
+    room : 0 < get_or lots i 0 → line_size * (line + 1) ≤ length lines
     room some = omega (arith, listed-room _ (one_more some), w.size, w.counted)
 
     pub line-room : 0 < get_or lots i 0 → LineRoom lines line
@@ -120,14 +121,14 @@ module _ (entry : List ℕ) (first number : ℕ) (lots : List ℕ) where
         cases : Dec (0 < get_or lots i 0) → ListedTo next count (i + 1)
         cases (yes some) =
             let r : List ℕ = joined (lines_to number lots i) in
-            let long : length r ≡ 3 * length (lines_to number lots i) = cells_of number lots i in
-            let place : 3 * line ≡ 3 * first + length r = omega (arith, w.counted) in
+            let long : length r ≡ line_size * length (lines_to number lots i) = cells_of number lots i in
+            let place : line_size * line ≡ line_size * first + length r = omega (arith, w.counted) in
             record {
               here = omega arith;
-              size = ap length (d.some some).0 ∙ length_over lines (line_for number lots i) (3 * line) (omega (arith, room some)) ∙ w.size;
+              size = ap length (d.some some).0 ∙ length_over lines (line_for number lots i) (line_size * line) (omega (arith, room some)) ∙ w.size;
               cells = (d.some some).0 ∙ ap₂ (λ (x : List ℕ) (k : ℕ). over x k (line_for number lots i)) w.cells place
-                  ∙ over-more entry r (line_for number lots i) (3 * first) (omega (arith, room some, w.size))
-                  ∙ ap (over entry (3 * first)) (sym (joined-append (lines_to number lots i) (line_for number lots i ∷ [])) ∙ ap joined (sym (more-some number lots i some)));
+                  ∙ over-more entry r (line_for number lots i) (line_size * first) (omega (arith, room some, w.size))
+                  ∙ ap (over entry (line_size * first)) (sym (joined-append (lines_to number lots i) (line_for number lots i ∷ [])) ∙ ap joined (sym (more-some number lots i some)));
               counted = omega (arith, w.counted, one_more some, (d.some some).1);
             }
         cases (no none) =
@@ -135,7 +136,7 @@ module _ (entry : List ℕ) (first number : ℕ) (lots : List ℕ) where
             record {
               here = omega arith;
               size = ap length (d.none (omega arith)).0 ∙ w.size;
-              cells = (d.none (omega arith)).0 ∙ w.cells ∙ ap (λ (l : List (List ℕ)). over entry (3 * first) (joined l)) e;
+              cells = (d.none (omega arith)).0 ∙ w.cells ∙ ap (λ (l : List (List ℕ)). over entry (line_size * first) (joined l)) e;
               counted = (d.none (omega arith)).1 ∙ w.counted ∙ ap (λ (l : List (List ℕ)). first + length l) e;
             }
 
@@ -144,6 +145,6 @@ module _ (entry : List ℕ) (first number : ℕ) (lots : List ℕ) where
   listed-all {lines} {line} {i} w l =
       let e : i ≡ length lots = omega (arith, w.here) in
       record {
-        cells = w.cells ∙ ap (λ (k : ℕ). over entry (3 * first) (joined (lines_to number lots k))) e;
+        cells = w.cells ∙ ap (λ (k : ℕ). over entry (line_size * first) (joined (lines_to number lots k))) e;
         counted = w.counted ∙ ap (λ (k : ℕ). first + length (lines_to number lots k)) e;
       }

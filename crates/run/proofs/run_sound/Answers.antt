@@ -20,10 +20,16 @@ pub returns-then-matches-lt-MATCH_CELLS : goal.returns-then-matches-lt-MATCH_CEL
 returns-then-matches-lt-MATCH_CELLS c = short-matches _ _ _ _ c.if-book-ge3.false (said-yes _ _ c.names_each_once.ensures c.if-not-names_each_once.false) c.if-matches-lt-MATCH_CELLS.true
 
 pub returns-then-lines-lt-LINE_CELLS : goal.returns-then-lines-lt-LINE_CELLS
-returns-then-lines-lt-LINE_CELLS c = short-lines _ _ _ _ c.if-book-ge3.false (said-yes _ _ c.names_each_once.ensures c.if-not-names_each_once.false) c.if-matches-lt-MATCH_CELLS.false c.if-lines-lt-LINE_CELLS.true
+returns-then-lines-lt-LINE_CELLS c =
+    short-lines _ _ _ _ c.if-book-ge3.false (said-yes _ _ c.names_each_once.ensures c.if-not-names_each_once.false)
+    c.if-matches-lt-MATCH_CELLS.false c.if-lines-lt-LINE_CELLS.true
 
 pub run-counts-requires : goal.run-counts-requires
-run-counts-requires c = run-asks _ _ _ _ c.if-book-ge3.false (said-yes _ _ c.names_each_once.ensures c.if-not-names_each_once.false) c.if-matches-lt-MATCH_CELLS.false c.if-lines-lt-LINE_CELLS.false c.requires
+run-counts-requires c =
+    run-asks _ _ _ _ c.if-book-ge3.false (said-yes _ _ c.names_each_once.ensures c.if-not-names_each_once.false)
+    c.if-matches-lt-MATCH_CELLS.false c.if-lines-lt-LINE_CELLS.false c.requires
 
 pub returns : goal.returns
-returns c = all-ran _ _ _ _ c.if-book-ge3.false (said-yes _ _ c.names_each_once.ensures c.if-not-names_each_once.false) c.if-matches-lt-MATCH_CELLS.false c.if-lines-lt-LINE_CELLS.false c.run-counts.ensures
+returns c =
+    all-ran _ _ _ _ c.if-book-ge3.false (said-yes _ _ c.names_each_once.ensures c.if-not-names_each_once.false)
+    c.if-matches-lt-MATCH_CELLS.false c.if-lines-lt-LINE_CELLS.false c.run-counts.ensures

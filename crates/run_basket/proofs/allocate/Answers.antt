@@ -2,6 +2,7 @@ use Rattle.std.proofs.Common.{◌≡◌, ◌∙◌, ap, ◌<◌, ℕ, List, leng
 use Rattle.std.proofs.lemmas.List.{get_or_default}
 use Rattle.lists.specs.Tables.{zeros}
 use Rattle.lists.proofs.TableLaws.{take-zeros}
+use Rattle.rule.specs.Layout.{most_issues}
 use Rattle.run_basket.proofs.AllocateLaws.{allocating-none, usable-asked, order-asked, issues-same, issues-few, fill-asked, write-asked, allocating-more, allocating-all}
 use Rattle.matching.specs.declared.Match.{Match}
 use Rattle.run_basket.proofs.allocate.Goals as goal
@@ -24,7 +25,7 @@ order_for-requires c =
 pub fill_next-f-requires : goal.fill_next-f-requires
 fill_next-f-requires c =
     fill-asked _ _ _ _ _ _ c.loop-m.invariant _ c.loop-m-test.true (item _ _ _ c.loop-m-test.true) c.usable_lots-all.ensures c.order_for.ensures _
-    (take-zeros _ 32 (issues-few _ _ _ _ _ _ c.requires)
+    (take-zeros _ most_issues (issues-few _ _ _ _ _ _ c.requires)
     ∙ ap zeros (issues-same _ _ _ _ _ _ c.loop-m.invariant c.requires)) c.requires
 
 pub write_next-requires : goal.write_next-requires
@@ -33,7 +34,8 @@ write_next-requires c =
 
 pub loop-m-preserved : goal.loop-m-preserved
 loop-m-preserved c =
-    allocating-more _ _ _ _ _ _ c.loop-m.invariant _ c.loop-m-test.true (item _ _ _ c.loop-m-test.true) c.usable_lots-all.ensures c.order_for.ensures c.fill_next-f.ensures c.usable_lots-all.auto.usable c.write_next.ensures
+    allocating-more _ _ _ _ _ _ c.loop-m.invariant _ c.loop-m-test.true (item _ _ _ c.loop-m-test.true)
+    c.usable_lots-all.ensures c.order_for.ensures c.fill_next-f.ensures c.usable_lots-all.auto.usable c.write_next.ensures
 
 pub returns-clause-done : goal.returns-clause-done
 returns-clause-done c = allocating-all _ _ _ _ _ _ c.loop-m-test.false c.loop-m.invariant
