@@ -76,7 +76,8 @@ module _ (ts : List Terms) (usable : List ℕ) (live : ℕ → Bool) where
     first-within : (order : List ℕ) → Within (first_pass ts usable order amount)
     unfolding first_pass
     first-within order =
-        fold-kept Within (λ i. Unit {0}) (take_units ts (target amount) usable) (λ s i q w. units-within (target amount) s i w) order (every-all _ (λ i. tt) order) (nothing (length usable)) nothing-within
+        fold-kept Within (λ i. Unit {0}) (take_units ts (target amount) usable) (λ s i q w. units-within (target amount) s i w) order
+        (every-all _ (λ i. tt) order) (nothing (length usable)) nothing-within
 
     first-kept : first_pass ts usable (keep live order) amount ≡ first_pass ts usable order amount
     unfolding first_pass

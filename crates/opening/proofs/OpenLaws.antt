@@ -196,7 +196,8 @@ module _ (n m : ℕ) (codes terms receipts pairs : List ℕ) where
       let rows : List (List ℕ) = grid terms 0 term_size m term_size in
       let shape : Shape rows m term_size = grid-shape terms 0 term_size m term_size (omega arith) (omega (arith, h.terms_size)) in
       written-four g₁ g₂ g₃ g₄ x
-      ∙ ap₂ (λ (t : List (List ℕ)) (c : List (ℕ × List ℕ)). written x (g₁ ++ (rows_at terms_at term_size t ++ (g₃ ++ (c ++ []))))) (sym (terms-rows (given_of n m codes terms receipts pairs) rows refl refl shape)) (sym cube-same)
+      ∙ ap₂ (λ (t : List (List ℕ)) (c : List (ℕ × List ℕ)). written x (g₁ ++ (rows_at terms_at term_size t ++ (g₃ ++ (c ++ [])))))
+      (sym (terms-rows (given_of n m codes terms receipts pairs) rows refl refl shape)) (sym cube-same)
       ∙ sym (open-stored n m codes terms receipts pairs h)
 
 -- ---- arrays tested whole

@@ -30,7 +30,9 @@ opening_of gathered book =
     let n = min gathered.participants 12 in
     let m = min gathered.issues 32 in
     let listed = min gathered.listed 32 in
-    open_of gathered.participants gathered.issues (slice_range gathered.codes 0 (code_size * listed)) (slice_range gathered.terms 0 (term_size * listed)) (slice_range gathered.receipts 0 (n * m)) (slice_range gathered.pairs 0 (baskets * n * n)) book
+    open_of gathered.participants gathered.issues
+    (slice_range gathered.codes 0 (code_size * listed)) (slice_range gathered.terms 0 (term_size * listed))
+    (slice_range gathered.receipts 0 (n * m)) (slice_range gathered.pairs 0 (baskets * n * n)) book
 
 -- "day PARTICIPANTS ISSUES"
 pub record DayLine (words : List (List ℕ)) (old new : OpeningData) : Type 0 where

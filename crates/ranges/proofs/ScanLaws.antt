@@ -41,6 +41,20 @@ all_split t i (suc n) =
 
 -- ---- what `all` returns, of a list and of the numbers below n
 
+-- a call of `all` or `any` that returns r: its test said `on` of the items ys, and then none was left, or it said `off` of the next
+abbrev pub Ran : {S A F : Type 0} → (S → Option A → S → Type 0) → Mut F (A × Unit {0}) Bool → Bool → Bool → S → S → F → Bool → Type 0
+Ran {S} {A} {F} steps g on off s u f r =
+    (ys : List A) × (o : Option A) × (j : F) × YieldsThen steps s ys o u × FoldsTo (λ p x q. Called g p (x, tt) on q) f ys j
+    × MatchOption o (r ≡ on) (λ x. (r ≡ off) × ((h : F) × Called g j (x, tt) off h))
+
+-- where its test says `on`, so does t, and the test is as it was
+abbrev pub GoesOn : {A F : Type 0} → Mut F (A × Unit {0}) Bool → F → Bool → (A → Bool) → Type 0
+GoesOn {A} {F} g f on t = (x : A) (q : F) → Called g f (x, tt) on q → (q ≡ f) × (t x ≡ on)
+
+-- where it says `off`, so does t
+abbrev pub Stops : {A F : Type 0} → Mut F (A × Unit {0}) Bool → F → Bool → (A → Bool) → Type 0
+Stops {A} {F} g f off t = (x : A) (q : F) → Called g f (x, tt) off q → t x ≡ off
+
 module _ {X : Type 0} (t : X → Bool) (xs : List X) (d : X) where
   said : (r : Bool) → MatchBool r (AllWithin (λ x. t x ≡ true) xs 0 (length xs)) ((k : ℕ) × (k < length xs) × HoldsAt (λ x. t x ≡ false) xs k)
       → r ≡ all_below (length xs) (λ i. t (get_or xs i d))
@@ -48,16 +62,12 @@ module _ {X : Type 0} (t : X → Bool) (xs : List X) (d : X) where
   said false (k, l, h) = sym (all-stop (λ i. t (get_or xs i d)) (length xs) k l (h d))
 
   module _ {S A F : Type 0} {steps : S → Option A → S → Type 0} {v : A → X} {g : Mut F (A × Unit {0}) Bool} {s : S} (u : S) {f : F} {r : Bool} where
-    pub all-items : ((ys : List A) × (o : Option A) × (j : F) × YieldsThen steps s ys o u × FoldsTo (λ p x q. Called g p (x, tt) true q) f ys j × MatchOption o (r ≡ true) (λ x. (r ≡ false) × ((h : F) × Called g j (x, tt) false h)))
-        → YieldsList steps v s xs
-        → ((x : A) (q : F) → Called g f (x, tt) true q → (q ≡ f) × (t (v x) ≡ true)) → ((x : A) (q : F) → Called g f (x, tt) false q → t (v x) ≡ false)
+    pub all-items : Ran steps g true false s u f r → YieldsList steps v s xs → GoesOn g f true (λ x. t (v x)) → Stops g f false (λ x. t (v x))
         → r ≡ all_below (length xs) (λ i. t (get_or xs i d))
     all-items ran e passed failed = said r (cases_from_all u _ _ (λ x. t x ≡ true) (λ x. t x ≡ false) ran e passed failed)
 
 module _ (t : ℕ → Bool) (n : ℕ) {F : Type 0} {g : Mut F (ℕ × Unit {0}) Bool} {s : Range ℕ} (u : Range ℕ) {f : F} {r : Bool} where
-  pub all-below : ((ys : List ℕ) × (o : Option ℕ) × (j : F) × YieldsThen nat_range_steps s ys o u × FoldsTo (λ p x q. Called g p (x, tt) true q) f ys j × MatchOption o (r ≡ true) (λ x. (r ≡ false) × ((h : F) × Called g j (x, tt) false h)))
-      → s ≡ record { start = 0; end = n }
-      → ((x : ℕ) (q : F) → Called g f (x, tt) true q → (q ≡ f) × (t x ≡ true)) → ((x : ℕ) (q : F) → Called g f (x, tt) false q → t x ≡ false)
+  pub all-below : Ran nat_range_steps g true false s u f r → s ≡ record { start = 0; end = n } → GoesOn g f true t → Stops g f false t
       → r ≡ all_below n t
   all-below ran e passed failed =
       all-items t (range_with_len 0 n) 0 u ran (YieldsList-from_range 0 n n e (omega arith)) passed failed
@@ -65,17 +75,19 @@ module _ (t : ℕ → Bool) (n : ℕ) {F : Type 0} {g : Mut F (ℕ × Unit {0}) 
       ∙ all-ext _ _ n (λ i l. let z : 0 + i ≡ i = omega arith in ap t (get_or-range_with_len 0 n i 0 l ∙ z))
 
   -- and of `any`
-  pub any-below : ((ys : List ℕ) × (o : Option ℕ) × (j : F) × YieldsThen nat_range_steps s ys o u × FoldsTo (λ p x q. Called g p (x, tt) false q) f ys j × MatchOption o (r ≡ false) (λ x. (r ≡ true) × ((h : F) × Called g j (x, tt) true h)))
-      → s ≡ record { start = 0; end = n }
-      → ((x : ℕ) (q : F) → Called g f (x, tt) true q → t x ≡ true) → ((x : ℕ) (q : F) → Called g f (x, tt) false q → (q ≡ f) × (t x ≡ false))
+  pub any-below : Ran nat_range_steps g false true s u f r → s ≡ record { start = 0; end = n } → Stops g f true t → GoesOn g f false t
       → MatchBool r ((k : ℕ) × (k < n) × (t k ≡ true)) ((k : ℕ) → k < n → t k ≡ false)
   any-below ran e passed failed =
       found r (cases_from_any u _ _ (λ x. t x ≡ true) (λ x. t x ≡ false) ran (YieldsList-from_range 0 n n e (omega arith)) passed failed)
     where
-      at_place : (b : Bool) (k : ℕ) → k < n → t (get_or (range_with_len 0 n) k 0) ≡ b → t k ≡ b
+      below : List ℕ
+      below = range_with_len 0 n
+
+      at_place : (b : Bool) (k : ℕ) → k < n → t (get_or below k 0) ≡ b → t k ≡ b
       at_place b k l h = let z : 0 + k ≡ k = omega arith in ap t (sym (get_or-range_with_len 0 n k 0 l ∙ z)) ∙ h
 
-      found : (r : Bool) → MatchBool r ((k : ℕ) × (k < length (range_with_len 0 n)) × HoldsAt (λ x. t x ≡ true) (range_with_len 0 n) k) (AllWithin (λ x. t x ≡ false) (range_with_len 0 n) 0 (length (range_with_len 0 n)))
+      found : (r : Bool)
+          → MatchBool r ((k : ℕ) × (k < length below) × HoldsAt (λ x. t x ≡ true) below k) (AllWithin (λ x. t x ≡ false) below 0 (length below))
           → MatchBool r ((k : ℕ) × (k < n) × (t k ≡ true)) ((k : ℕ) → k < n → t k ≡ false)
       found true (k, l, h) = let l' : k < n = omega (arith, length-range_with_len 0 n) in (k, l', at_place true k l' (h 0))
       found false h = λ k l. at_place false k l (h k 0 (omega arith) (omega (arith, length-range_with_len 0 n)))

@@ -8,7 +8,8 @@ use Rattle.reply.specs.declared.Refusal.TheVariants.{WrongSize, WrongCode, Wrong
 record Answered : Type 0 where
   -- the numbers of the check table
   numbers : map number_of
-      (WrongSize ∷ WrongCode ∷ WrongTerm ∷ WrongReceiptOrPair ∷ UnsoundBook ∷ ThreeRunsDone ∷ NotOfDay ∷ WrongAmount ∷ NoUnmarkedIssue ∷ PositionTooLarge ∷ TooManyTrades ∷ WrongEntry ∷ TooManyLots ∷ WrongDraw ∷ ShortList ∷ FewerThanThreeRuns ∷ [])
+      (WrongSize ∷ WrongCode ∷ WrongTerm ∷ WrongReceiptOrPair ∷ UnsoundBook ∷ ThreeRunsDone ∷ NotOfDay ∷ WrongAmount
+      ∷ NoUnmarkedIssue ∷ PositionTooLarge ∷ TooManyTrades ∷ WrongEntry ∷ TooManyLots ∷ WrongDraw ∷ ShortList ∷ FewerThanThreeRuns ∷ [])
       ≡ 1 ∷ 2 ∷ 3 ∷ 4 ∷ 5 ∷ 6 ∷ 7 ∷ 8 ∷ 9 ∷ 10 ∷ 11 ∷ 12 ∷ 13 ∷ 14 ∷ 15 ∷ 16 ∷ []
   -- "A refusal returns its number alone"
   told : told (Ok tt) ∷ told (Err NotOfDay) ∷ told_run (Err WrongDraw) ∷ [] ≡ accepted ∷ refused 7 ∷ refused 14 ∷ []

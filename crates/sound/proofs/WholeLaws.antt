@@ -185,12 +185,18 @@ module _ (b : List ℕ) where
 
 -- the tests of a book whose day has n participants and m issues
 module _ (b : List ℕ) (n m : ℕ) (e : n ≡ get_or b 0 0) (f : m ≡ get_or b 1 0) where
-  pub given_is : given_fits b ≡ (codes_fit b && (terms_in_range m (grid b terms_at term_size m term_size) && (at_most 1000000000000 n m (grid b receipts_at most_issues n m) && pairs_fit n (cube b pairs_at n))))
+  pub given_is : given_fits b
+      ≡ (codes_fit b
+      && (terms_in_range m (grid b terms_at term_size m term_size)
+      && (at_most 1000000000000 n m (grid b receipts_at most_issues n m) && pairs_fit n (cube b pairs_at n))))
   unfolding given_fits receipts_fit holds
   given_is = rw (e, f) (simp and-true)
 
   pub state_is : (runs lots yen : ℕ) → runs ≡ get_or b 2 0 → lots ≡ while_runs runs notice_limit → yen ≡ while_runs runs position_limit
-      → state_fits b ≡ (leb runs 3 && (leb (get_or b 3 0) trade_limit && (at_most lots n m (grid b notices_at most_issues n m) && (positions_fit b yen && (tally_fits b (tally_limit * runs) && pairs_fit n (cube b today_at n))))))
+      → state_fits b
+      ≡ (leb runs 3 && (leb (get_or b 3 0) trade_limit
+      && (at_most lots n m (grid b notices_at most_issues n m)
+      && (positions_fit b yen && (tally_fits b (tally_limit * runs) && pairs_fit n (cube b today_at n))))))
   unfolding state_fits state_within holds
   state_is runs lots yen r l y = rw (e, f, l, y, r) (simp and-true)
 

@@ -46,7 +46,8 @@ module _ (issues : List (List ℕ)) where
   quotes-none places = record { at = omega arith; places = places; each = λ k h. absurd (not-suc-le-zero h) }
 
   module _ {quotes : List Quote} {i : ℕ} (r : QuotesTo quotes i) (h : i < length issues) {q : Quote} where
-    pub quotes-more : ((t : Terms) → t.price ≡ get_or (get_or issues i []) price_at 0 → t.coupon ≡ get_or (get_or issues i []) coupon_at 0 → t.days ≡ get_or (get_or issues i []) days_at 0 → QuoteOf t q)
+    pub quotes-more :
+        ((t : Terms) → t.price ≡ get_or (get_or issues i []) price_at 0 → t.coupon ≡ get_or (get_or issues i []) coupon_at 0 → t.days ≡ get_or (get_or issues i []) days_at 0 → QuoteOf t q)
         → QuotesTo (set quotes i q) (i + 1)
     quotes-more e = record {
       at = omega arith;

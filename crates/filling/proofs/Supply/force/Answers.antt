@@ -22,7 +22,8 @@ bounds-self-i-2 c = below (goal.at.bounds-self-i-2 c).After-forced_issue-i
 pub invariant_of-standing : goal.invariant_of-standing
 invariant_of-standing c =
     record {
-      part = forced-part c.args.self.now.supplied c.args.basket (goal.at.invariant_of-standing c).After-forced_issue-i.forced_issue-i.ensures _ (omega (arith, c.requires.below, c.requires.amount_most));
+      part = forced-part c.args.self.now.supplied c.args.basket (goal.at.invariant_of-standing c).After-forced_issue-i.forced_issue-i.ensures _
+          (omega (arith, c.requires.below, c.requires.amount_most));
     }
 
 pub returns : goal.returns

@@ -9,7 +9,8 @@ returns-then-not-codes_right c = let l = c.args.self.now.lengths in wrong-code _
 pub returns-then-not-terms_fit : goal.returns-then-not-terms_fit
 returns-then-not-terms_fit c =
     let l = c.args.self.now.lengths in
-    wrong-term _ _ _ _ _ _ _ (said-yes _ _ (codes-whole l c.codes_right.ensures) c.if-not-codes_right.false) (said-no _ _ (terms-whole l c.as_chunks.ensures.front c.terms_fit.ensures) c.if-not-terms_fit.true)
+    wrong-term _ _ _ _ _ _ _ (said-yes _ _ (codes-whole l c.codes_right.ensures) c.if-not-codes_right.false)
+    (said-no _ _ (terms-whole l c.as_chunks.ensures.front c.terms_fit.ensures) c.if-not-terms_fit.true)
 
 pub returns-then-not-rows_at_most : goal.returns-then-not-rows_at_most
 returns-then-not-rows_at_most c =

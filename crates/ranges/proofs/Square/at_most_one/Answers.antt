@@ -35,20 +35,23 @@ loop-row-preserved c =
     let p : ℕ = w.0 in
     let next = MatchOption-at_some _ _ _ c.in-Some.is c.next.ensures.steps.1 in
     let long = next.1 ∙ w.2 in
+    let some = stride-some s.n s.stride s.rows.wide c.if-self.false in
+    let left = row-left _ _ _ some s.rows.size _ _ w.1 _ _ next.0 long in
+    let room = row-room _ _ _ some s.rows.size _ _ w.1 _ _ next.0 long in
+    let is = row-is _ _ _ some s.rows.size _ _ w.1 _ _ next.0 long in
     let e : s.stride * p ≡ 0 + s.stride * p = omega arith in
-    let room = row-room b s.stride s.n (stride-some s.n s.stride s.rows.wide c.if-self.false) s.rows.size _ p w.1 c.in-Some.row.now _ next.0 long in (
+    let passes = ap (λ (x : List ℕ). all_pass low (take s.n x)) is ∙ front-passes s.stride s.n some s.rows.wide low b p room ∙ ap (λ (j : ℕ). row_passes low b j s.n) e in (
       p + 1,
-      left-more b s.stride s.n (stride-some s.n s.stride s.rows.wide c.if-self.false) s.rows.size _ p w.1 c.in-Some.row.now _ next.0 long,
+      left-more _ _ _ some s.rows.size _ _ w.1 _ _ next.0 long,
       c.next.ensures.steps.0 ∙ w.2,
-      gathered-more w.3 (row-left b s.stride s.n (stride-some s.n s.stride s.rows.wide c.if-self.false) s.rows.size _ p w.1 c.in-Some.row.now _ next.0 long) (bits_below c.loop-row.bits c.bits_of-bits.result 1
-          ∙ ap (λ (r : Bool). leb c.loop-row.bits 1 && r) (c.bits_of-bits.ensures
-          ∙ ap (λ (x : List ℕ). all_pass low (take s.n x)) (row-is b s.stride s.n (stride-some s.n s.stride s.rows.wide c.if-self.false) s.rows.size _ p w.1 c.in-Some.row.now _ next.0 long)
-          ∙ front-passes s.stride s.n (stride-some s.n s.stride s.rows.wide c.if-self.false) s.rows.wide low b p room
-          ∙ ap (λ (j : ℕ). row_passes low b j s.n) e)),
+      gathered-more w.3 left (bits_below c.loop-row.bits c.bits_of-bits.result 1 ∙ ap (λ (r : Bool). leb c.loop-row.bits 1 && r) (c.bits_of-bits.ensures ∙ passes)),
     )
 
 pub returns : goal.returns
 returns c =
     let s = c.args.self.now in
     let w = c.loop-row.invariant in
-    gathered-all w.3 (none-left s.marks.now s.stride s.n (stride-some s.n s.stride s.rows.wide c.if-self.false) s.rows.size _ w.0 w.1 (omega (arith, (MatchOption-at_none _ _ c.in-None.is c.next.ensures.steps.1).0, w.2))) ∙ sym (rows_are s.marks.now 0 s.stride s.n s.n 1)
+    let some = stride-some s.n s.stride s.rows.wide c.if-self.false in
+    let short = MatchOption-at_none _ _ c.in-None.is c.next.ensures.steps.1 in
+    gathered-all w.3 (none-left _ _ _ some s.rows.size _ _ w.1 (omega (arith, short.0, w.2)))
+    ∙ sym (rows_are s.marks.now 0 s.stride s.n s.n 1)
