@@ -1,7 +1,5 @@
 -- Laws that the proofs of a trade cite. Assumes nothing.
-use Rattle.std.proofs.Common.{◌≡◌, ℕ, ◌+◌, ◌-◌, ◌<◌, ◌≤◌, ◌≢◌, Bool, true, false, eqb, ltb, List, get_or, sym, refl, ap, ◌∙◌, ap₂, mod-lt, min, arith, lit<, le-ltb, lt-ltb}
-use Rattle.std.specs.Ordering.{nat_cmp, is_gt}
-use Rattle.std.proofs.lemmas.Bool.Decides.{nat_tests}
+use Rattle.std.proofs.Common.{◌≡◌, ℕ, ◌+◌, ◌-◌, ◌<◌, ◌≤◌, true, false, ltb, List, get_or, sym, refl, ap, ◌∙◌, ap₂, mod-lt, min, arith, lit<, le-ltb, lt-ltb}
 use Rattle.lists.specs.Tables.{cell}
 use Rattle.rule.specs.Day.{traded}
 use Rattle.rule.specs.Calls.{afterwards}
@@ -59,20 +57,6 @@ module _ (b : List ℕ) (s : SoundBook b) (k p at yen : ℕ) (basket : k < 7) (p
 
   pub bought-is : yen ≤ 1000000000000 → (to r : ℕ) → to ≡ cell_less c yen → r ≡ minus to → r ≡ afterwards (cell (view b).state.due k p) (cell (view b).state.owed k p) yen
   bought-is l to r m e = e ∙ ap minus m ∙ bought_of c yen (s.readable.words at) (movable l) ∙ ap₂ (λ (o d : ℕ). d + yen - o) (sym owed-is) (sym due-is)
-
--- amounts of yen are compared as their numbers
-module _ (a b : ℕ) {r : Bool} where
-  pub gt-yes : r ≡ is_gt (nat_cmp a b) → r ≡ true → b < a
-  gt-yes e h = grind (arith, nat_tests)
-
-  pub gt-no : r ≡ is_gt (nat_cmp a b) → r ≡ false → a ≤ b
-  gt-no e h = grind (arith, nat_tests)
-
-  pub eq_yes : r ≡ eqb a b → r ≡ true → a ≡ b
-  eq_yes e h = grind (arith, nat_tests)
-
-  pub eq_no : r ≡ eqb a b → r ≡ false → a ≢ b
-  eq_no e h = grind (arith, nat_tests)
 
 -- a number that is known by another name is above a limit, or not
 pub over : (limit r t : ℕ) → r ≡ t → limit < r → ltb limit t ≡ true

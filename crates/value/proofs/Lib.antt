@@ -2,4 +2,3 @@
 pub mod QuoteLaws
 pub mod TermLaws
 pub mod SumLaws
-pub mod OrderLaws

@@ -1,7 +1,7 @@
 -- `filling::goes_through` meets its contract. Assumes nothing.
 use Rattle.std.proofs.Common.{arith, refl, true}
 use Rattle.lists.proofs.TestLaws.{both_ways}
-use Rattle.value.proofs.OrderLaws.{le-no, gt-no}
+use Rattle.quantities.proofs.OrderLaws.{le-no, gt-no}
 use Rattle.filling.proofs.MatchLaws.{idle-forced, idle-uncovered}
 use Rattle.filling.proofs.goes_through.Goals as goal
 

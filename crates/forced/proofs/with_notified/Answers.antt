@@ -2,7 +2,7 @@
 use Rattle.std.proofs.Common.{◌<◌, ◌∷◌, Bool, arith, subst, sym, ◌∙◌}
 use Rattle.lists.specs.Tests.{pick}
 use Rattle.rule.specs.Day.{terms_of, marks_of}
-use Rattle.value.proofs.OrderLaws.{ge_yes, ge_no}
+use Rattle.quantities.proofs.OrderLaws.{ge_yes, ge_no}
 use Rattle.forced.specs.Choice.{takes, BestAt, BestOf}
 use Rattle.forced.proofs.ChoiceLaws.{best-kept, best-met}
 use Rattle.forced.proofs.with_notified.Goals.{else-ge-via-then-ge+else-is_eligible, else-ge-via-else-ge}

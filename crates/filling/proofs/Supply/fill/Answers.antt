@@ -1,5 +1,5 @@
 use Rattle.std.proofs.Common.{refl}
-use Rattle.value.proofs.OrderLaws.{eq_yes, eq_no, le-yes, le-no}
+use Rattle.quantities.proofs.OrderLaws.{eq_yes, eq_no, le-yes, le-no}
 use Rattle.filling.proofs.MatchLaws.{fill-nothing}
 use Rattle.filling.proofs.WalkLaws.{begin, enter, leave, done, ready, on, passed, out}
 use Rattle.filling.proofs.Supply.fill.Goals as goal

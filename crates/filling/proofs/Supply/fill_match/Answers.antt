@@ -1,7 +1,7 @@
 -- `filling::Supply::fill_match` meets its contract. Assumes nothing.
 use Rattle.std.proofs.Common.{arith, refl, rules}
 use Rattle.filling.specs.Supply.{supply_terms}
-use Rattle.value.proofs.OrderLaws.{lt-yes}
+use Rattle.quantities.proofs.OrderLaws.{lt-yes}
 use Rattle.filling.proofs.MatchLaws.{row-places, carried, carry-filled, third-short, otherwise}
 use Rattle.filling.proofs.Supply.fill_match.Goals as goal
 

@@ -3,7 +3,7 @@ use Rattle.std.proofs.Common.{◌≡◌, ◌≢◌, ◌≤◌, ◌<◌, rules}
 use Rattle.rule.specs.Calls.{trade_checks}
 use Rattle.rule.specs.Layout.{view}
 use Rattle.rule.proofs.AnswerLaws.{answers}
-use Rattle.trade.proofs.TradeLaws.{eq_yes, eq_no, gt-yes, gt-no}
+use Rattle.quantities.proofs.OrderLaws.{eq_yes, eq_no, gt-yes, gt-no}
 use Rattle.trade.specs.Checked.{trade_sound, trade_between}
 use Rattle.trade.proofs.Sale.enter.Goals as goal
 

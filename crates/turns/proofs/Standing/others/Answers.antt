@@ -1,6 +1,6 @@
 -- `turns::Standing::others` meets its contract. Assumes nothing.
 use Rattle.std.proofs.Common.{◌-◌, ◌∙◌, ap, ℕ}
-use Rattle.value.proofs.OrderLaws.{eq_yes}
+use Rattle.quantities.proofs.OrderLaws.{eq_yes}
 use Rattle.turns.proofs.TurnLaws.{besides-none, had-most, part-there}
 use Rattle.turns.proofs.Standing.others.Goals as goal
 

@@ -1,5 +1,5 @@
 -- `turns::Standing::take_remainder` meets its contract. Assumes nothing.
-use Rattle.value.proofs.OrderLaws.{eq_yes}
+use Rattle.quantities.proofs.OrderLaws.{eq_yes}
 use Rattle.turns.proofs.TurnLaws.{remainder-none}
 use Rattle.turns.proofs.Standing.take_remainder.Goals as goal
 

@@ -1,6 +1,6 @@
 -- `turns::Standing::take_units` meets its contract. Assumes nothing.
 use Rattle.std.proofs.Common.{arith}
-use Rattle.value.proofs.OrderLaws.{le-yes, le-no, lt-yes}
+use Rattle.quantities.proofs.OrderLaws.{le-yes, le-no, lt-yes}
 use Rattle.turns.proofs.TurnLaws.{units-none, units-all, units-one, most-addable, units-most}
 use Rattle.turns.proofs.Standing.take_units.Goals as goal
 

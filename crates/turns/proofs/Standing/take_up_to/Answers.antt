@@ -1,6 +1,6 @@
 -- `turns::Standing::take_up_to` meets its contract. Assumes nothing.
 use Rattle.std.proofs.Common.{arith}
-use Rattle.value.proofs.OrderLaws.{le-yes, lt-yes, lt-no}
+use Rattle.quantities.proofs.OrderLaws.{le-yes, lt-yes, lt-no}
 use Rattle.turns.proofs.TurnLaws.{up_none, rest_below, bound-addable, up-all, few-addable, up-few}
 use Rattle.turns.proofs.Standing.take_up_to.Goals as goal
 

@@ -1,6 +1,6 @@
 -- `value::Quote::add_value` meets its contract. Assumes nothing.
 use Rattle.std.proofs.Common.{arith}
-use Rattle.value.proofs.OrderLaws.{eq_yes}
+use Rattle.quantities.proofs.OrderLaws.{eq_yes}
 use Rattle.value.proofs.SumLaws.{part_small, nothing-added}
 use Rattle.value.proofs.Quote.add_value.Goals as goal
 

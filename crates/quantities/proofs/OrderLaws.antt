@@ -20,6 +20,9 @@ module _ (a b : ℕ) {r : Bool} where
   pub le-no : r ≡ is_le (nat_cmp a b) → r ≡ false → b < a
   le-no e h = grind (arith, nat_tests)
 
+  pub gt-yes : r ≡ is_gt (nat_cmp a b) → r ≡ true → b < a
+  gt-yes e h = grind (arith, nat_tests)
+
   pub gt-no : r ≡ is_gt (nat_cmp a b) → r ≡ false → a ≤ b
   gt-no e h = grind (arith, nat_tests)
 

@@ -1,0 +1,2 @@
+-- Laws of comparing yen and lots.
+pub mod OrderLaws
