@@ -9,7 +9,7 @@ use Rattle.rule.specs.Layout.{view, run_of}
 use Rattle.rule.proofs.RunLaws.{few-allocations}
 use Rattle.rule.proofs.RunLists.{few_lines}
 use Rattle.rule.proofs.RunCallLaws.{RunLeaves, run_sound}
-use Rattle.c_api.specs.Returned.{returned, for_c, CountsFit}
+use Rattle.c_api.specs.Returned.{returned, for_c, ReturnedRunAsks}
 
 -- the library's answer, and its number
 pub for-c : {X : Type 0} (reply : Reply) (rest : X) (out : Reply × X) (number : ℕ) → (reply, rest) ≡ out → number ≡ returned reply → (number, rest) ≡ for_c out
@@ -17,7 +17,7 @@ for-c {X} reply rest out number e n = ap (λ (k : ℕ). (k, rest)) n ∙ ap (λ 
 
 -- an accepted run's counts
 module _ (b draw matches lines : List ℕ) (words : (j : ℕ) → get_or b j 0 < 18446744073709551616) where
-  counts-fit : (reply : Reply) → (run_of b draw matches lines).0 ≡ reply → CountsFit reply
+  counts-fit : (reply : Reply) → (run_of b draw matches lines).0 ≡ reply → ReturnedRunAsks reply
   counts-fit accepted e = tt
   counts-fit (counts m l) e =
       let r : RunLeaves b draw matches lines m l = run_sound b words draw matches lines m l e in
@@ -25,5 +25,5 @@ module _ (b draw matches lines : List ℕ) (words : (j : ℕ) → get_or b j 0 <
   counts-fit (refused number) e = tt
 
   -- what a run answers has room in the number
-  pub run_fits : (reply : Reply) (rest : List ℕ × List ℕ × List ℕ) → (reply, rest) ≡ run_of b draw matches lines → CountsFit reply
+  pub run_fits : (reply : Reply) (rest : List ℕ × List ℕ × List ℕ) → (reply, rest) ≡ run_of b draw matches lines → ReturnedRunAsks reply
   run_fits reply rest e = counts-fit reply (sym (ap (λ (o : Reply × (List ℕ × List ℕ × List ℕ)). o.0) e))

@@ -13,7 +13,7 @@ abbrev pub for_c : {X : Type 0} → Reply × X → ℕ × X
 for_c out = (returned out.0, out.1)
 
 -- a run's counts leave room for each other in the number
-abbrev pub CountsFit : Reply → Type 0
-CountsFit accepted = Unit {0}
-CountsFit (counts matches lines) = (matches ≤ most_matches) × (lines ≤ most_lines)
-CountsFit (refused number) = Unit {0}
+abbrev pub ReturnedRunAsks : Reply → Type 0
+ReturnedRunAsks accepted = Unit {0}
+ReturnedRunAsks (counts matches lines) = (matches ≤ most_matches) × (lines ≤ most_lines)
+ReturnedRunAsks (refused number) = Unit {0}

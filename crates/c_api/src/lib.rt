@@ -4,7 +4,7 @@
 ghost use Rattle.std.specs.Prelude.{◌≡◌, ◌≤◌};
 ghost use Rattle.rule.specs.Layout.{book_length, open_of, trade_of, notice_of, run_of, close_of};
 ghost use Rattle.reply.specs.Answers.{told, told_run};
-ghost use Rattle.c_api.specs.Returned.{returned, for_c, CountsFit};
+ghost use Rattle.c_api.specs.Returned.{returned, for_c, ReturnedRunAsks};
 
 use quantities::Yen;
 use reply::{Counts, Refusal};
@@ -25,7 +25,7 @@ fn returned(answer: Result<(), Refusal>) -> u64
 
 // A run's is not the same function at another type: what is accepted has a number of its own, as `told_run` and `told` have it.
 fn returned_run(answer: Result<Counts, Refusal>) -> u64
-    requires { CountsFit (told_run answer) }
+    requires { ReturnedRunAsks (told_run answer) }
     ensures { result ≡ returned (told_run answer) }
 {
     match answer {

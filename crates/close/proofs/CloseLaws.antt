@@ -23,7 +23,7 @@ use Rattle.rule.specs.Layout.{tally_at, today_at, plus, cube, view, most_partici
 use Rattle.rule.proofs.LayoutLaws.{map-shape}
 use Rattle.rule.proofs.AnswerLaws.{answers}
 use Rattle.rule.proofs.BookLaws.{SoundBook}
-use Rattle.close.specs.Closed.{ReceiptsFit, PairsFit, receipts_written, pairs_written, close_sound}
+use Rattle.close.specs.Closed.{WriteReceiptsAsks, WritePairsAsks, receipts_written, pairs_written, close_sound}
 
 -- ---- rows written one after the other
 
@@ -90,7 +90,7 @@ tally_rows b = map (map plus) (grid b tally_at most_issues (get_or b 0 0) (get_o
 abbrev pub Received : List ℕ → List ℕ → List ℕ → ℕ → Type 0
 Received b receipts c p = Filled receipts 0 (get_or b 1 0) (tally_rows b) c p
 
-module _ (b receipts : List ℕ) (f : ReceiptsFit b receipts) where
+module _ (b receipts : List ℕ) (f : WriteReceiptsAsks b receipts) where
   tally-shape : Shape (grid b tally_at most_issues (get_or b 0 0) (get_or b 1 0)) (get_or b 0 0) (get_or b 1 0)
   tally-shape = grid-shape b tally_at most_issues (get_or b 0 0) (get_or b 1 0) f.most (omega (arith, f.size, f.few))
 
@@ -139,7 +139,7 @@ today_rows b = map joined (cube b today_at (get_or b 0 0))
 abbrev pub Covered : List ℕ → List ℕ → List ℕ → ℕ → Type 0
 Covered b pairs c k = Filled pairs 0 (get_or b 0 0 * get_or b 0 0) (today_rows b) c k
 
-module _ (b pairs : List ℕ) (f : PairsFit b pairs) where
+module _ (b pairs : List ℕ) (f : WritePairsAsks b pairs) where
   pub square-small : get_or b 0 0 * get_or b 0 0 ≤ 144
   square-small = mul-le-mul f.few f.few
 
@@ -198,10 +198,10 @@ module _ (b pairs : List ℕ) (f : PairsFit b pairs) where
 
 -- ---- what the checks have shown to the writers
 
-pub receipts_fit : (b receipts : List ℕ) → SoundBook b → get_or b 0 0 * get_or b 1 0 ≤ length receipts → ReceiptsFit b receipts
+pub receipts_fit : (b receipts : List ℕ) → SoundBook b → get_or b 0 0 * get_or b 1 0 ≤ length receipts → WriteReceiptsAsks b receipts
 receipts_fit b receipts s l = record { size = s.readable.size; few = s.sizes.few; most = s.sizes.most; room = l }
 
-pub pairs_fit : (b pairs : List ℕ) → SoundBook b → 7 * (get_or b 0 0 * get_or b 0 0) ≤ length pairs → PairsFit b pairs
+pub pairs_fit : (b pairs : List ℕ) → SoundBook b → 7 * (get_or b 0 0 * get_or b 0 0) ≤ length pairs → WritePairsAsks b pairs
 pairs_fit b pairs s l = record { size = s.readable.size; few = s.sizes.few; room = l }
 
 -- ---- what each return of a close shows

@@ -7,13 +7,13 @@ use Rattle.rule.specs.Day.{baskets}
 use Rattle.rule.specs.Calls.{Reply, accepted, answer, close_checks, tomorrow_receipts, tomorrow_pairs}
 use Rattle.rule.specs.Layout.{most_participants, most_issues, participants_at, issues_at, book_length, tally_at, today_at, plus, cube, view}
 
-pub record ReceiptsFit (b receipts : List ℕ) : Type 0 where
+pub record WriteReceiptsAsks (b receipts : List ℕ) : Type 0 where
   pub size : length b ≡ book_length
   pub few : get_or b participants_at 0 ≤ most_participants
   pub most : get_or b issues_at 0 ≤ most_issues
   pub room : get_or b participants_at 0 * get_or b issues_at 0 ≤ length receipts
 
-pub record PairsFit (b pairs : List ℕ) : Type 0 where
+pub record WritePairsAsks (b pairs : List ℕ) : Type 0 where
   pub size : length b ≡ book_length
   pub few : get_or b participants_at 0 ≤ most_participants
   pub room : baskets * (get_or b participants_at 0 * get_or b participants_at 0) ≤ length pairs

@@ -5,13 +5,13 @@ ghost use Rattle.std.specs.Prelude.{◌≡◌};
 ghost use Rattle.rule.specs.Layout.{close_of};
 ghost use Rattle.reply.specs.Answers.{told};
 ghost use Rattle.rule.proofs.BookLaws.{SoundBook};
-ghost use Rattle.close.specs.Closed.{ReceiptsFit, PairsFit, receipts_written, pairs_written, close_sound};
+ghost use Rattle.close.specs.Closed.{WriteReceiptsAsks, WritePairsAsks, receipts_written, pairs_written, close_sound};
 
 use reply::Refusal;
 
 // The tally's rows, one after the other.
 fn write_receipts(book: &[u64], receipts: &mut [u64])
-    requires { ReceiptsFit book.now receipts.old }
+    requires { WriteReceiptsAsks book.now receipts.old }
     ensures { receipts.new ≡ receipts_written book.now receipts.old }
 {
     let participants = book[layout::PARTICIPANTS] as usize;
@@ -25,7 +25,7 @@ fn write_receipts(book: &[u64], receipts: &mut [u64])
 
 // Today's marks, basket by basket.
 fn write_pairs(book: &[u64], pairs: &mut [u64])
-    requires { PairsFit book.now pairs.old }
+    requires { WritePairsAsks book.now pairs.old }
     ensures { pairs.new ≡ pairs_written book.now pairs.old }
 {
     let participants = book[layout::PARTICIPANTS] as usize;

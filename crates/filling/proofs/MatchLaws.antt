@@ -22,7 +22,7 @@ use Rattle.value.specs.declared.Quote.{Quote}
 use Rattle.turns.specs.Turns.{besides, Part}
 use Rattle.turns.proofs.TurnLaws.{part-of}
 use Rattle.forced.proofs.ChoiceLaws.{forced-inside}
-use Rattle.filling.specs.Rows.{Asked}
+use Rattle.filling.specs.Rows.{FillMatchAsks}
 use Rattle.filling.specs.Match.{Idle, Supplied, FilledAs}
 use Rattle.filling.specs.declared.Filling.{Filling}
 use Rattle.filling.proofs.NothingLaws.{fill_none}
@@ -30,16 +30,16 @@ use Rattle.filling.proofs.WalkLaws.{priced}
 
 -- ---- nothing for an amount of 0
 
-pub fill-nothing : {issues amount : ℕ} {lots : List ℕ} → Asked issues amount lots → amount ≡ 0 → (preferential : Bool) (ts : List Terms) (usable order : List ℕ)
+pub fill-nothing : {issues amount : ℕ} {lots : List ℕ} → FillMatchAsks issues amount lots → amount ≡ 0 → (preferential : Bool) (ts : List Terms) (usable order : List ℕ)
     → issues ≡ length usable → lots ≡ (fill preferential ts usable order amount).lots
 fill-nothing a z preferential ts usable order e = rw (z, fill_none preferential ts usable order, ← e) a.empty
 
-pub row-places : {issues amount : ℕ} {lots : List ℕ} → Asked issues amount lots → length lots ≡ issues
+pub row-places : {issues amount : ℕ} {lots : List ℕ} → FillMatchAsks issues amount lots → length lots ≡ issues
 row-places {issues} a = ap length a.empty ∙ length-table {A = ℕ} issues (λ i. 0)
 
 -- ---- the amount is carried in part, or whole
 
-pub carried : {issues amount part : ℕ} {lots : List ℕ} (all : ℕ) → Asked issues amount lots → part ≡ covered amount all → Asked issues part lots
+pub carried : {issues amount part : ℕ} {lots : List ℕ} (all : ℕ) → FillMatchAsks issues amount lots → part ≡ covered amount all → FillMatchAsks issues part lots
 carried {amount = amount} all a e = record { amount_most = omega (arith, e, covered-most amount all, a.amount_most); empty = a.empty }
 
 pub carry-filled : (preferential : Bool) (ts : List Terms) (usable order : List ℕ) (amount : ℕ) {all part : ℕ} {lots : List ℕ} {r : Filling}

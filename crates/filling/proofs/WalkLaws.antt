@@ -23,7 +23,7 @@ use Rattle.turns.specs.Passes.{next_of, Fresh}
 use Rattle.turns.specs.declared.Pass.{Pass}
 use Rattle.turns.specs.declared.Pass.TheVariants.{Units, Remainders, Rest}
 use Rattle.turns.proofs.TurnLaws.{part-of}
-use Rattle.filling.specs.Rows.{passes_of, Ready, RowTurned, Stepped, Asked}
+use Rattle.filling.specs.Rows.{passes_of, TakeTurnAsks, RowTurned, TakeTurnGives, FillMatchAsks}
 use Rattle.filling.specs.Match.{Supplied}
 use Rattle.filling.proofs.PassLaws.{step, begun, over, after, Has, Stands, nothing-worth, stands_at, fresh-at, left}
 
@@ -118,7 +118,7 @@ module _ {issues : List (List ℕ)} {quotes : List Quote} {notified usable order
   named = every-index (λ i. i < length ts) 0 order (λ k b. omega (arith, d.named.inside k b, sized))
 
   -- nothing is held, it is worth nothing, and some amount is to be filled
-  pub begin : {preferential : Bool} {amount : ℕ} {lots : List ℕ} → (amount ≡ 0 → ⊥) → Asked (length usable) amount lots
+  pub begin : {preferential : Bool} {amount : ℕ} {lots : List ℕ} → (amount ≡ 0 → ⊥) → FillMatchAsks (length usable) amount lots
       → AtPass preferential ts usable order amount 0 lots 0
   begin {amount = amount} some a = record {
     holds = record { below = omega arith; held = record { cells = a.empty; sum = sym (nothing-worth ts priced usable order amount (sym sized) named) } };
@@ -134,7 +134,7 @@ module _ {issues : List (List ℕ)} {quotes : List Quote} {notified usable order
     its-part : others ts s i + value (get_or ts i no_terms) (lots_of s i) ≡ worth ts s.lots
     its-part = apart ts priced s i in-terms k.sized
 
-    turn-ready : reached < amount → amount ≤ 10_000_000_000_000 → Fresh pass (lots_of s i) (worth ts s.lots) amount → Ready pass quotes lots usable i reached amount
+    turn-ready : reached < amount → amount ≤ 10_000_000_000_000 → Fresh pass (lots_of s i) (worth ts s.lots) amount → TakeTurnAsks pass quotes lots usable i reached amount
     turn-ready below most fresh =
         let less : worth ts s.lots < amount = omega (arith, h.sum) in
         rw (h.cells, h.sum) (record {
@@ -195,7 +195,7 @@ module _ {issues : List (List ℕ)} {quotes : List Quote} {notified usable order
         let l : j < k = omega (arith, length-take-le k order (omega arith)) in
         rw (get_or-take k order j 0 l) (λ e. absurd (omega (arith, d.named.once k j at (omega arith) e))))
 
-    pub ready : amount ≤ 10_000_000_000_000 → Ready pass quotes lots usable (get_or order k 0) reached amount
+    pub ready : amount ≤ 10_000_000_000_000 → TakeTurnAsks pass quotes lots usable (get_or order k 0) reached amount
     ready most = turn-ready stands a.holds.held (d.named.inside k at) a.holds.below most
         (fresh-at ts priced usable order amount (sym sized) named preferential pass k (get_or order k 0) not-met)
 
@@ -212,7 +212,7 @@ module _ {issues : List (List ℕ)} {quotes : List Quote} {notified usable order
       out l = one_more.cells ∙ ap (λ (s : Taken). s.lots) (sym (left ts priced usable order amount (sym sized) named preferential pass a.has (k + 1) (omega (arith, one_more.sum))))
 
     -- the issue takes nothing
-    pub passed : (turn : Option Yen) {lots' : List ℕ} → turn ≡ None → Stepped pass quotes lots usable (get_or order k 0) reached amount lots' turn
+    pub passed : (turn : Option Yen) {lots' : List ℕ} → turn ≡ None → TakeTurnGives pass quotes lots usable (get_or order k 0) reached amount lots' turn
         → InPass preferential ts usable order amount pass (k + 1) lots' reached
     passed turn {lots'} none t =
-        on (subst (λ (o : Option Yen). Stepped pass quotes lots usable (get_or order k 0) reached amount lots' o) none t) a.holds.below
+        on (subst (λ (o : Option Yen). TakeTurnGives pass quotes lots usable (get_or order k 0) reached amount lots' o) none t) a.holds.below

@@ -12,7 +12,7 @@ use Rattle.rule.specs.Sound.{notice_limit}
 use Rattle.value.specs.Range.{most_yen}
 
 -- the amount of a match
-pub record Coverable (amount : ℕ) : Type 0 where
+pub record CoveredAsks (amount : ℕ) : Type 0 where
   pub amount_most : amount ≤ most_yen
 
 -- the match is filled alike in every order of the issues
@@ -33,7 +33,7 @@ pub record Supplied (issues : List (List ℕ)) (quotes : List Quote) (notified u
   pub all_is : all ≡ worth (map terms_of issues) usable
 
 -- all usable lots are worth less than the amount, and there is a row for them
-pub record Forcible (issues all amount places : ℕ) : Type 0 where
+pub record ForceAsks (issues all amount places : ℕ) : Type 0 where
   pub below : all < amount
   pub amount_most : amount ≤ most_yen
   pub row : places ≡ issues

@@ -6,7 +6,7 @@ use Rattle.quantities.specs.declared.Yen.{Yen}
 use Rattle.value.specs.Quotes.{QuotedAt}
 use Rattle.value.specs.declared.Quote.{Quote}
 use Rattle.turns.specs.Turns.{besides, Part}
-use Rattle.turns.specs.Passes.{next_of, Turnable}
+use Rattle.turns.specs.Passes.{next_of, NextAsks}
 use Rattle.turns.specs.declared.Pass.{Pass}
 use Rattle.turns.specs.declared.Pass.TheVariants.{Units, Remainders, Rest}
 use Rattle.value.specs.Range.{most_yen}
@@ -17,11 +17,11 @@ passes_of true = Rest ∷ []
 passes_of false = Units ∷ Remainders ∷ Rest ∷ []
 
 -- the turn of issue i in a row of lots
-pub record Ready (pass : Pass) (quotes : List Quote) (lots usable : List ℕ) (i reached amount : ℕ) : Type 0 where
+pub record TakeTurnAsks (pass : Pass) (quotes : List Quote) (lots usable : List ℕ) (i reached amount : ℕ) : Type 0 where
   pub row : length lots ≡ length usable
   pub inside : i < length usable
   pub part : (past : Quote) → Part (get_or quotes i past) (get_or lots i 0) reached
-  pub turnable : Turnable pass (get_or lots i 0) (get_or usable i 0) reached amount
+  pub turnable : NextAsks pass (get_or lots i 0) (get_or usable i 0) reached amount
 
 pub record RowTurned (pass : Pass) (t : Terms) (lots usable : List ℕ) (i reached amount : ℕ) (after : List ℕ) (value_after : ℕ) : Type 0 where
   pub cells : after ≡ set lots i (next_of pass t (get_or usable i 0) (get_or lots i 0) reached amount)
@@ -33,14 +33,14 @@ worth_after reached None = reached
 worth_after reached (Some worth) = worth.0
 
 -- the turn taken, whatever the terms of the quote
-abbrev pub Stepped : Pass → List Quote → List ℕ → List ℕ → ℕ → ℕ → ℕ → List ℕ → Option Yen → Type 0
-Stepped pass quotes lots usable i reached amount after r =
+abbrev pub TakeTurnGives : Pass → List Quote → List ℕ → List ℕ → ℕ → ℕ → ℕ → List ℕ → Option Yen → Type 0
+TakeTurnGives pass quotes lots usable i reached amount after r =
     (t : Terms) → QuotedAt t quotes i → RowTurned pass t lots usable i reached amount after (worth_after reached r)
 
 -- ---- what filling asks
 
 -- an amount, and a row for the issues that has nothing yet
-pub record Asked (issues amount : ℕ) (lots : List ℕ) : Type 0 where
+pub record FillMatchAsks (issues amount : ℕ) (lots : List ℕ) : Type 0 where
   pub amount_most : amount ≤ most_yen
   pub empty : lots ≡ zeros issues
 

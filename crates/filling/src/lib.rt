@@ -3,8 +3,8 @@
 
 ghost use Rattle.std.specs.Prelude.{◌≡◌, false, length};
 ghost use Rattle.rule.specs.Filling.{covered as covered_of, fill as fill_of, force as force_of, filled};
-ghost use Rattle.filling.specs.Rows.{passes_of, Ready, Stepped, Asked};
-ghost use Rattle.filling.specs.Match.{Coverable, Idle, Supplied, Forcible, FilledAs};
+ghost use Rattle.filling.specs.Rows.{passes_of, TakeTurnAsks, TakeTurnGives, FillMatchAsks};
+ghost use Rattle.filling.specs.Match.{CoveredAsks, Idle, Supplied, ForceAsks, FilledAs};
 
 use quantities::{Lots, Yen};
 use turns::{Pass, Standing};
@@ -15,7 +15,7 @@ const SHORTAGE_STEP: Yen = Yen(10_000_000);
 // "the shortage is rounded up to 10,000,000 yen, at most the amount .. the rest is the covered amount".
 #[tactic(auto, unfolding(rule::specs::Filling::covered, rule::specs::Filling::shortage))]
 pub fn covered(amount: Yen, usable: Yen) -> Yen
-    requires { Coverable amount.0 }
+    requires { CoveredAsks amount.0 }
     ensures { result.0 ≡ covered_of amount.0 usable.0 }
 {
     if amount <= usable {
@@ -30,7 +30,7 @@ pub fn covered(amount: Yen, usable: Yen) -> Yen
 
 // Whether filling goes through the issues: not where what is short is forced, or nothing is covered.
 pub fn goes_through(runs: u64, all: Yen, amount: Yen) -> bool
-    requires { Coverable amount.0 }
+    requires { CoveredAsks amount.0 }
     ensures { result ≡ false → Idle runs all.0 amount.0 }
 {
     if amount <= all {
@@ -91,7 +91,7 @@ impl Supply<'_> {
         amount: Yen,
         lots: &mut [u64],
     ) -> Filling
-        requires { Asked (length self.now.usable.now) amount.0 lots.old }
+        requires { FillMatchAsks (length self.now.usable.now) amount.0 lots.old }
         ensures { FilledAs (filled runs preferential (supply_terms self.now) self.now.usable.now self.now.order.now (forced_in basket self.now) amount.0) result lots.new }
     {
         if runs >= 2 && self.all < amount {
@@ -108,7 +108,7 @@ impl Supply<'_> {
 
     // "In run 3 all usable lots go, and the fewest further lots of one forced issue reach the amount".
     fn force(&self, basket: u64, amount: Yen, lots: &mut [u64]) -> Filling
-        requires { Forcible (length self.now.usable.now) self.now.all.0 amount.0 (length lots.old) }
+        requires { ForceAsks (length self.now.usable.now) self.now.all.0 amount.0 (length lots.old) }
         ensures { FilledAs (force_of (supply_terms self.now) self.now.usable.now (forced_in basket self.now) amount.0) result lots.new }
     {
         lots.copy_from_slice(self.usable);
@@ -131,7 +131,7 @@ impl Supply<'_> {
     // Not inlined: within the code of a run, drawn runs take a fifth more time.
     #[inline(never)]
     fn fill(&self, preferential: bool, amount: Yen, lots: &mut [u64])
-        requires { Asked (length self.now.usable.now) amount.0 lots.old }
+        requires { FillMatchAsks (length self.now.usable.now) amount.0 lots.old }
         ensures { lots.new ≡ (fill_of preferential (supply_terms self.now) self.now.usable.now self.now.order.now amount.0).lots }
     {
         if amount == Yen(0) {
@@ -162,8 +162,8 @@ impl Supply<'_> {
         amount: Yen,
         lots: &mut [u64],
     ) -> Option<Yen>
-        requires { Ready pass self.now.quotes.now lots.old self.now.usable.now i reached.0 amount.0 }
-        ensures { Stepped pass self.now.quotes.now lots.old self.now.usable.now i reached.0 amount.0 lots.new result }
+        requires { TakeTurnAsks pass self.now.quotes.now lots.old self.now.usable.now i reached.0 amount.0 }
+        ensures { TakeTurnGives pass self.now.quotes.now lots.old self.now.usable.now i reached.0 amount.0 lots.new result }
     {
         let standing = Standing {
             quote: self.quotes[i],

@@ -18,7 +18,7 @@ use Rattle.rule.proofs.DrawLaws.{EachOnce}
 use Rattle.arrayvec.specs.ArrayVec.{ArrayVec}
 use Rattle.matching.specs.declared.Match.{Match as Entry}
 use Rattle.matching.proofs.ListLaws.{block-block}
-use Rattle.matching.specs.Plans.{rule_match, pair_marks, Planned, Basket}
+use Rattle.matching.specs.Plans.{rule_match, pair_marks, Planned, PlanAsks}
 
 -- ---- a basket of a sound day
 
@@ -37,7 +37,7 @@ signed-one-zero (c ∷ cs) (suc p) = signed-one-zero cs p
 
 -- n participants, their positions in the basket, and a right draw
 pub sound-basket : (n : ℕ) (marks draw positions : List ℕ) → length positions ≡ n → n ≤ 12 → most_participants * n ≤ length marks → EachOnce draw n
-    → Basket marks draw (map plus positions) (map minus positions)
+    → PlanAsks marks draw (map plus positions) (map minus positions)
 sound-basket n marks draw positions e h k r =
     let o : length (map plus positions) ≡ n = length-map positions plus ∙ e in
     let u : length (map minus positions) ≡ n = length-map positions minus ∙ e in

@@ -17,7 +17,7 @@ use Rattle.rule.specs.Layout.{most_participants}
 use Rattle.rule.specs.Matching.{meet, with, pairs_of, preferred, preferential}
 use Rattle.rule.specs.Matching as rule
 use Rattle.matching.specs.declared.Left.{Left}
-use Rattle.matching.specs.Plans.{left_of, SameBuffers, Room, Meeting, pair_marks, is_pair, meet_pairs, Sizes, Pairing, Preferring}
+use Rattle.matching.specs.Plans.{left_of, SameBuffers, Room, MeetAsks, pair_marks, is_pair, meet_pairs, Sizes, MeetPairsOfAsks, MeetPreferentialAsks}
 use Rattle.matching.proofs.ListLaws.{from_first, with_all, part-at}
 use Rattle.matching.proofs.MeetLaws.{meets-none, meets-on, meets-room}
 
@@ -64,7 +64,7 @@ row-begin marks d s = record {
   leads = let e : length s.owed.now - 0 ≡ length s.owed.now = omega arith in rw e;
 }
 
-module _ {marks : List ℕ} {d : ℕ} {s₀ s : Left} {r : ℕ} (p : Pairing marks s₀ d) (w : Row marks d s₀ s r) where
+module _ {marks : List ℕ} {d : ℕ} {s₀ s : Left} {r : ℕ} (p : MeetPairsOfAsks marks s₀ d) (w : Row marks d s₀ s r) where
   abbrev n : ℕ
   n = length s₀.owed.now
 
@@ -82,7 +82,7 @@ module _ {marks : List ℕ} {d : ℕ} {s₀ s : Left} {r : ℕ} (p : Pairing mar
     leads-pair : get_or marks (most_participants * d + r) 0 ≡ 1 → foldl (meet true) (left_of s) (((d, r) ∷ []) ++ to_meet marks n d (r + 1)) ≡ whole
     leads-pair m = ap (foldl (meet true) (left_of s)) (sym (next-pair m)) ∙ w.leads
 
-    pub row-asks : get_or marks (most_participants * d + r) 0 ≡ 1 → Meeting true s d r
+    pub row-asks : get_or marks (most_participants * d + r) 0 ≡ 1 → MeetAsks true s d r
     row-asks m = record {
       deliverer = omega (arith, p.deliverer, w.same.owed_size);
       receiver = omega (arith, p.sizes.same, w.same.due_size);
@@ -118,7 +118,7 @@ pub record Rows (runs : ℕ) (marks : List ℕ) (s₀ s : Left) (d : ℕ) : Type
   pub same : SameBuffers s₀ s
   pub leads : foldl (meet true) (left_of s) (to_pair marks (length s₀.owed.now) d) ≡ preferential runs (pair_marks marks (length s₀.owed.now)) s₀.owed.now s₀.due.now
 
-module _ {runs : ℕ} {marks : List ℕ} {s₀ : Left} (p : Preferring runs marks s₀) where
+module _ {runs : ℕ} {marks : List ℕ} {s₀ : Left} (p : MeetPreferentialAsks runs marks s₀) where
   abbrev all : rule.Left
   all = preferential runs (pair_marks marks (length s₀.owed.now)) s₀.owed.now s₀.due.now
 
@@ -151,7 +151,7 @@ module _ {runs : ℕ} {marks : List ℕ} {s₀ : Left} (p : Preferring runs mark
       same_row : foldl (meet true) (left_of s) its ≡ meet_pairs marks (left_of s) (with (up_to (length s.owed.now)) d)
       same_row = ap (λ (k : ℕ). foldl (meet true) (left_of s) (keep (is_pair marks k) (with (up_to k) d))) (sym w.same.owed_size)
 
-      pub rows-ask : Pairing marks s d
+      pub rows-ask : MeetPairsOfAsks marks s d
       rows-ask = record {
         sizes = sizes-stay p.sizes w.same;
         deliverer = omega (arith, w.same.owed_size);

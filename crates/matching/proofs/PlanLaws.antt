@@ -14,7 +14,7 @@ use Rattle.rule.proofs.MatchingLaws.{few_matches}
 use Rattle.arrayvec.specs.ArrayVec.{ArrayVec}
 use Rattle.matching.specs.declared.Match.{Match as Entry}
 use Rattle.matching.specs.declared.Left.{Left}
-use Rattle.matching.specs.Plans.{rule_match, left_of, SameBuffers, Planned, Drawing, pair_marks, Preferring, Basket}
+use Rattle.matching.specs.Plans.{rule_match, left_of, SameBuffers, Planned, TurnsAsks, pair_marks, MeetPreferentialAsks, PlanAsks}
 
 -- matches made before a turn, or before turns, stay in front
 turns_from : (draw ds : List ℕ) (o u : List ℕ) (before made : List Match)
@@ -27,7 +27,7 @@ turns_from draw (d ∷ ds) o u before made =
     ap (λ (ms : List Match). foldl (turn draw) (record { owed = its.owed; due = its.due; made = ms }) ds) (append_assoc before made (sorted (λ m. m.amount) its.made))
     ∙ turns_from draw ds its.owed its.due before (made ++ sorted (λ m. m.amount) its.made)
 
-module _ (runs : ℕ) (marks draw : List ℕ) (s : Left) (b : Basket marks draw s.owed.now s.due.now) where
+module _ (runs : ℕ) (marks draw : List ℕ) (s : Left) (b : PlanAsks marks draw s.owed.now s.due.now) where
   abbrev pairs : rule.Left
   pairs = preferential runs (pair_marks marks (length s.owed.now)) s.owed.now s.due.now
 
@@ -45,7 +45,7 @@ module _ (runs : ℕ) (marks draw : List ℕ) (s : Left) (b : Basket marks draw 
         b.sizes.few,
       )
 
-  pub plan-asks : s.made.now.items ≡ [] → Preferring runs marks s
+  pub plan-asks : s.made.now.items ≡ [] → MeetPreferentialAsks runs marks s
   plan-asks e = record { sizes = b.sizes; empty = e; room = omega (arith, all_fit) }
 
   -- the pairs are matched
@@ -57,7 +57,7 @@ module _ (runs : ℕ) (marks draw : List ℕ) (s : Left) (b : Basket marks draw 
         ∙ ap (λ (ms : List Match). foldl (turn draw) (record { owed = pairs.owed; due = pairs.due; made = ms }) (deliverers pairs.owed)) (sym (append-nil pairs.made))
         ∙ turns_from draw (deliverers pairs.owed) pairs.owed pairs.due pairs.made []
 
-    pub rest-asks : Drawing draw t
+    pub rest-asks : TurnsAsks draw t
     rest-asks = record {
       few = omega (arith, b.sizes.few, same.owed_size);
       receivers = every_map (λ p. p < length s.owed.now) (λ p. p < length t.due.now) (λ p l. omega (arith, b.sizes.same, same.due_size)) draw b.receivers;

@@ -18,10 +18,10 @@ use Rattle.lists.proofs.FoldLaws.{every-at, every-all, every_map}
 use Rattle.lists.proofs.OrderLaws.{length-sorted, ranked-below}
 use Rattle.rule.specs.Matching.{Match, meet, with, turn, deliverers}
 use Rattle.rule.specs.Matching as rule
-use Rattle.ranking.specs.Ranks.{Keyed}
+use Rattle.ranking.specs.Ranks.{SortByKeyAsks}
 use Rattle.matching.specs.declared.Match.{Match as Entry}
 use Rattle.matching.specs.declared.Left.{Left}
-use Rattle.matching.specs.Plans.{rule_match, left_of, SameBuffers, Room, Meeting, Turning, Drawing}
+use Rattle.matching.specs.Plans.{rule_match, left_of, SameBuffers, Room, MeetAsks, TurnAsks, TurnsAsks}
 use Rattle.matching.proofs.ListLaws.{with_all, map-sorted}
 use Rattle.matching.proofs.MeetLaws.{meets-none, meets-on, meets-room, meets-grow, meets_from}
 use Rattle.matching.proofs.PairLaws.{same_still}
@@ -55,7 +55,7 @@ length-turn draw s d =
     length-append s.made _ ∙ ap (λ (n : ℕ). length s.made + n) (length-sorted (λ m. m.amount) (alone draw s d).made) ∙ sym (length-append s.made _)
     ∙ sym (ap (λ (t : rule.Left). length t.made) (met-is draw s d))
 
-module _ {draw : List ℕ} {d : ℕ} {s₀ s : Left} {j : ℕ} (t : Turning draw s₀ d) (w : Drawn draw d s₀ s j) where
+module _ {draw : List ℕ} {d : ℕ} {s₀ s : Left} {j : ℕ} (t : TurnAsks draw s₀ d) (w : Drawn draw d s₀ s j) where
   abbrev next : List (ℕ × ℕ)
   next = (d, get_or draw j 0) ∷ []
 
@@ -65,7 +65,7 @@ module _ {draw : List ℕ} {d : ℕ} {s₀ s : Left} {j : ℕ} (t : Turning draw
         let e : get_or draw j 0 ∷ drop (j + 1) draw ≡ drop j draw = rw (add-one j, drop-cons draw j 0 h) in
         ap (λ (rs : List ℕ). foldl (meet false) (left_of s) (with rs d)) e ∙ w.leads
 
-    pub drawn-asks : Meeting false s d (get_or draw j 0)
+    pub drawn-asks : MeetAsks false s d (get_or draw j 0)
     drawn-asks = record {
       deliverer = omega (arith, t.deliverer, w.same.owed_size);
       receiver = omega (arith, every-at (λ p. p < length s₀.due.now) 0 draw t.receivers j h, w.same.due_size);
@@ -124,7 +124,7 @@ met-grows draw d s t e =
 
 -- every match has its amount
 unfoldable pub amount-keyed : (items : List Entry) (pre : Entry → Type 0) (post : Entry → ℕ → Type 0) → ((m : Entry) → pre m) → ((m : Entry) (n : ℕ) → post m n → n ≡ m.amount.0)
-    → Keyed pre post items
+    → SortByKeyAsks pre post items
 amount-keyed items pre post a g = record { by = λ m. m.amount.0; asks = every-all pre a items; gives = every-all (λ m. (n : ℕ) → post m n → n ≡ m.amount.0) g items }
 
 -- as `turn` leaves them: the matches from the n-th on are lent as a part, sorted and back in their place
@@ -181,7 +181,7 @@ pub record Turns (draw ds : List ℕ) (s₀ s : Left) (k : ℕ) : Type 0 where
 pub turns-begin : (draw ds : List ℕ) (s : Left) → Turns draw ds s s 0
 turns-begin draw ds s = record { same = record { owed = refl; due = refl; made = refl; owed_size = refl; due_size = refl }; leads = refl }
 
-module _ {draw ds : List ℕ} {s₀ s : Left} {k : ℕ} (p : Drawing draw s₀) (f : ds ≡ ranked (λ p. get_or s₀.owed.now p 0) (length s₀.owed.now)) (w : Turns draw ds s₀ s k) where
+module _ {draw ds : List ℕ} {s₀ s : Left} {k : ℕ} (p : TurnsAsks draw s₀) (f : ds ≡ ranked (λ p. get_or s₀.owed.now p 0) (length s₀.owed.now)) (w : Turns draw ds s₀ s k) where
   abbrev whole : rule.Left
   whole = foldl (turn draw) (left_of s₀) ds
 
@@ -198,7 +198,7 @@ module _ {draw ds : List ℕ} {s₀ s : Left} {k : ℕ} (p : Drawing draw s₀) 
         let e : who ∷ drop (k + 1) ds ≡ drop k ds = rw (add-one k, drop-cons ds k 0 h) in
         ap (foldl (turn draw) (left_of s)) e ∙ w.leads
 
-    pub turns-ask : Turning draw s who
+    pub turns-ask : TurnAsks draw s who
     turns-ask = record {
       deliverer = omega (arith, every-at (λ p. p < length s₀.owed.now) 0 ds (rw f (ranked-below (λ p. get_or s₀.owed.now p 0) (length s₀.owed.now))) k h, w.same.owed_size);
       receivers = every_map (λ r. r < length s₀.due.now) (λ r. r < length s.due.now) (λ r l. omega (arith, w.same.due_size)) draw p.receivers;

@@ -37,19 +37,19 @@ Room s = length s.made ≤ 11
 -- ---- what the functions ask: numbers of participants, and room for the matches that they leave
 
 -- a meeting of deliverer d and receiver r
-pub record Meeting (preferential : Bool) (s : Left) (d r : ℕ) : Type 0 where
+pub record MeetAsks (preferential : Bool) (s : Left) (d r : ℕ) : Type 0 where
   pub deliverer : d < length s.owed.now
   pub receiver : r < length s.due.now
   pub room : Room (meet preferential (left_of s) (d, r))
 
 -- deliverer d's turn
-pub record Turning (draw : List ℕ) (s : Left) (d : ℕ) : Type 0 where
+pub record TurnAsks (draw : List ℕ) (s : Left) (d : ℕ) : Type 0 where
   pub deliverer : d < length s.owed.now
   pub receivers : Every (λ p. p < length s.due.now) draw
   pub room : Room (turn draw (left_of s) d)
 
 -- all deliverers' turns
-pub record Drawing (draw : List ℕ) (s : Left) : Type 0 where
+pub record TurnsAsks (draw : List ℕ) (s : Left) : Type 0 where
   pub few : length s.owed.now ≤ most_participants
   pub receivers : Every (λ p. p < length s.due.now) draw
   pub room : Room (foldl (turn draw) (left_of s) (deliverers s.owed.now))
@@ -72,19 +72,19 @@ pub record Sizes (marks owed due : List ℕ) : Type 0 where
   pub marked : most_participants * length owed ≤ length marks
 
 -- deliverer d and the receivers of its pairs
-pub record Pairing (marks : List ℕ) (s : Left) (d : ℕ) : Type 0 where
+pub record MeetPairsOfAsks (marks : List ℕ) (s : Left) (d : ℕ) : Type 0 where
   pub sizes : Sizes marks s.owed.now s.due.now
   pub deliverer : d < length s.owed.now
   pub room : Room (meet_pairs marks (left_of s) (with (up_to (length s.owed.now)) d))
 
 -- all pairs, before any match
-pub record Preferring (runs : ℕ) (marks : List ℕ) (s : Left) : Type 0 where
+pub record MeetPreferentialAsks (runs : ℕ) (marks : List ℕ) (s : Left) : Type 0 where
   pub sizes : Sizes marks s.owed.now s.due.now
   pub empty : s.made.now.items ≡ []
   pub room : Room (preferential runs (pair_marks marks (length s.owed.now)) s.owed.now s.due.now)
 
 -- a basket: each participant owes or has due and not both, and the draw names participants
-pub record Basket (marks draw owed due : List ℕ) : Type 0 where
+pub record PlanAsks (marks draw owed due : List ℕ) : Type 0 where
   pub sizes : Sizes marks owed due
   pub one_zero : OneZero owed due
   pub receivers : Every (λ p. p < length owed) draw

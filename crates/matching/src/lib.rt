@@ -5,7 +5,7 @@ ghost use Rattle.std.specs.Prelude.{◌≡◌, [], ◌∷◌, length, false};
 ghost use Rattle.lists.specs.Tables.{up_to};
 ghost use Rattle.lists.specs.Folds.{foldl};
 ghost use Rattle.rule.specs.Matching.{meet as meet_of, with, preferential as preferential_of, turn as turn_of, deliverers, plan as plan_of};
-ghost use Rattle.matching.specs.Plans.{left_of, SameBuffers, Planned, Meeting, Turning, Drawing, pair_marks, meet_pairs, Pairing, Preferring, Basket};
+ghost use Rattle.matching.specs.Plans.{left_of, SameBuffers, Planned, MeetAsks, TurnAsks, TurnsAsks, pair_marks, meet_pairs, MeetPairsOfAsks, MeetPreferentialAsks, PlanAsks};
 
 use arrayvec::ArrayVec;
 use quantities::Yen;
@@ -47,7 +47,7 @@ struct Left<'a> {
 impl Left<'_> {
     // Deliverer d and receiver r are matched for the smaller of their positions left, if it is above 0.
     fn meet(&mut self, preferential: bool, d: usize, r: usize)
-        requires { Meeting preferential self.old d r }
+        requires { MeetAsks preferential self.old d r }
         ensures left { left_of self.new ≡ meet_of preferential (left_of self.old) (d, r) }
         ensures same { SameBuffers self.old self.new }
     {
@@ -67,7 +67,7 @@ impl Left<'_> {
 
     // Deliverer d meets the receivers of its pairs by number, until nothing is left.
     fn meet_pairs_of(&mut self, marks: &[u64], d: usize)
-        requires { Pairing marks.now self.old d }
+        requires { MeetPairsOfAsks marks.now self.old d }
         ensures left { left_of self.new ≡ meet_pairs marks.now (left_of self.old) (with (up_to (length self.old.owed.now)) d) }
         ensures same { SameBuffers self.old self.new }
     {
@@ -86,7 +86,7 @@ impl Left<'_> {
 
     // "Run 1 first takes yesterday's pairs", "by deliverer number, then receiver number"
     fn meet_preferential(&mut self, runs: u64, marks: &[u64])
-        requires { Preferring runs marks.now self.old }
+        requires { MeetPreferentialAsks runs marks.now self.old }
         ensures left { left_of self.new ≡ preferential_of runs (pair_marks marks.now (length self.old.owed.now)) self.old.owed.now self.old.due.now }
         ensures same { SameBuffers self.old self.new }
     {
@@ -100,7 +100,7 @@ impl Left<'_> {
 
     // "Each meets receivers in the drawn order for the smaller amount, until nothing is left"
     fn meet_drawn(&mut self, draw: &[u64], d: usize)
-        requires { Turning draw.now self.old d }
+        requires { TurnAsks draw.now self.old d }
         ensures left { left_of self.new ≡ foldl (meet_of false) (left_of self.old) (with draw.now d) }
         ensures same { SameBuffers self.old self.new }
     {
@@ -114,7 +114,7 @@ impl Left<'_> {
 
     // A deliverer's turn: "each deliverer's drawn ones go by larger matched amount, ties in drawn order"
     fn turn(&mut self, draw: &[u64], d: usize)
-        requires { Turning draw.now self.old d }
+        requires { TurnAsks draw.now self.old d }
         ensures left { left_of self.new ≡ turn_of draw.now (left_of self.old) d }
         ensures same { SameBuffers self.old self.new }
     {
@@ -126,7 +126,7 @@ impl Left<'_> {
 
     // "deliverers go from the larger position left (ties: smaller number)"
     fn turns(&mut self, draw: &[u64])
-        requires { Drawing draw.now self.old }
+        requires { TurnsAsks draw.now self.old }
         ensures left { left_of self.new ≡ foldl (turn_of draw.now) (left_of self.old) (deliverers self.old.owed.now) }
         ensures same { SameBuffers self.old self.new }
     {
@@ -148,7 +148,7 @@ pub fn plan(
     due: &mut [u64],
     plan: &mut Plan,
 )
-    requires { Basket marks.now draw.now owed.old due.old }
+    requires { PlanAsks marks.now draw.now owed.old due.old }
     ensures { Planned (plan_of runs (pair_marks marks.now (length owed.old)) draw.now owed.old due.old) plan.new }
 {
     plan.clear();

@@ -25,7 +25,7 @@ use Rattle.rule.specs.Layout.{notices_at, view, stored, issues_at, lots_row}
 use Rattle.rule.proofs.AnswerLaws.{denied, granted}
 use Rattle.rule.proofs.BookLaws.{SoundBook}
 use Rattle.rule.proofs.NoticeLaws.{Noticeable, length-notice_row, notice-stored}
-use Rattle.notice.specs.Checked.{Named, Written, notice_written}
+use Rattle.notice.specs.Checked.{AllDistinctAsks, WriteAsks, notice_written}
 
 -- ---- the issues named below j are marked
 
@@ -117,11 +117,11 @@ module _ (b : List ℕ) (s : SoundBook b) (issues : List ℕ) (named : all_below
   of_day : (j : ℕ) → j < length issues → get_or issues j 0 < get_or b 1 0
   of_day j l = ltb-true (get_or issues j 0) (get_or b 1 0) (all-at (λ j. ltb (get_or issues j 0) (get_or b 1 0)) (length issues) named j l)
 
-  pub markable : Named 32 issues
+  pub markable : AllDistinctAsks 32 issues
   markable = record { below = λ j l. omega (arith, of_day j l, s.sizes.most) }
 
   module _ (p : ℕ) (lots : List ℕ) (sender : p < get_or b 0 0) (even : length issues ≡ length lots) where
-    pub writable : Written b p issues lots
+    pub writable : WriteAsks b p issues lots
     writable = record {
       size = s.readable.size;
       sender = omega (arith, s.sizes.few);

@@ -7,24 +7,24 @@ use Rattle.rule.specs.Calls.{Reply, accepted, answer, notice_checks}
 use Rattle.rule.specs.Layout.{most_participants, most_issues, issues_at, book_length, lots_row, notices_at, view, stored}
 
 -- every entry names a number below `cells`
-pub record Named (cells : ℕ) (issues : List ℕ) : Type 0 where
+pub record AllDistinctAsks (cells : ℕ) (issues : List ℕ) : Type 0 where
   pub below : (j : ℕ) → j < length issues → get_or issues j 0 < cells
 
 -- every entry of a notice names a cell of the row, and has its lots
-pub record Entries (cells : ℕ) (issues lots : List ℕ) : Type 0 where
+pub record WriteRowAsks (cells : ℕ) (issues lots : List ℕ) : Type 0 where
   pub lengths : length issues ≡ length lots
-  pub named : Named cells issues
+  pub named : AllDistinctAsks cells issues
 
 unfoldable pub notice_sound : List ℕ → ℕ → List ℕ → List ℕ → Reply × List ℕ
 notice_sound b p issues lots =
     answer (first (notice_checks (view b) p issues lots)) accepted (stored b (noticed (view b) p issues lots)) b
 
 -- what the checks of a notice have shown to its writer
-pub record Written (b : List ℕ) (p : ℕ) (issues lots : List ℕ) : Type 0 where
+pub record WriteAsks (b : List ℕ) (p : ℕ) (issues lots : List ℕ) : Type 0 where
   pub size : length b ≡ book_length
   pub sender : p < most_participants
   pub most : get_or b issues_at 0 ≤ most_issues
-  pub entries : Entries (get_or b issues_at 0) issues lots
+  pub entries : WriteRowAsks (get_or b issues_at 0) issues lots
 
 -- the sender's row of the book
 unfoldable pub notice_written : List ℕ → ℕ → List ℕ → List ℕ → List ℕ

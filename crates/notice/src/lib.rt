@@ -8,7 +8,7 @@ ghost use Rattle.rule.specs.Calls.{distinct};
 ghost use Rattle.rule.specs.Layout.{most_issues, notice_of};
 ghost use Rattle.reply.specs.Answers.{told};
 ghost use Rattle.rule.proofs.BookLaws.{SoundBook};
-ghost use Rattle.notice.specs.Checked.{Named, Entries, Written, notice_sound, notice_written};
+ghost use Rattle.notice.specs.Checked.{AllDistinctAsks, WriteRowAsks, WriteAsks, notice_sound, notice_written};
 
 use reply::Refusal;
 use sound::limits;
@@ -22,7 +22,7 @@ fn all_of_day(named: &[u64], issues: u64) -> bool
 
 // Is no issue named twice? Each is marked when it is met.
 fn all_distinct(named: &[u64]) -> bool
-    requires { Named most_issues named.now }
+    requires { AllDistinctAsks most_issues named.now }
     ensures { result ≡ distinct named.now }
 {
     let mut met = [false; layout::MOST_ISSUES];
@@ -47,7 +47,7 @@ struct Notified<'a> {
 impl<'a> Notified<'a> {
     // The sender's row: every entry's lots at its issue, 0 elsewhere.
     fn write_row(&self, row: &mut [u64])
-        requires { Entries (length row.old) self.now.named.now self.now.lots.now }
+        requires { WriteRowAsks (length row.old) self.now.named.now self.now.lots.now }
         ensures { row.new ≡ notice_row (length row.old) self.now.named.now self.now.lots.now }
     {
         row.fill(0);
@@ -58,7 +58,7 @@ impl<'a> Notified<'a> {
 
     // "only that participant's row of the book is written": it starts in mid-book, and is lent to the writer.
     fn write(&self, book: &mut [u64])
-        requires { Written book.old self.now.participant self.now.named.now self.now.lots.now }
+        requires { WriteAsks book.old self.now.participant self.now.named.now self.now.lots.now }
         ensures { book.new ≡ notice_written book.old self.now.participant self.now.named.now self.now.lots.now }
     {
         let issues = book[layout::ISSUES] as usize;

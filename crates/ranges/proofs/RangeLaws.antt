@@ -14,7 +14,7 @@ use Rattle.rule.specs.Allocable.{Marks}
 use Rattle.rule.specs.Value.{Terms}
 use Rattle.rule.specs.Day.{terms_of, marks_of}
 use Rattle.rule.specs.Sound.{terms_fit, all_terms_fit, at_most, pairs_fit, marks_fit}
-use Rattle.ranges.specs.Ranges.{Fronts, issue_fits, terms_in_range, all_pass, row_passes, square_fits}
+use Rattle.ranges.specs.Ranges.{SquareFitsAsks, issue_fits, terms_in_range, all_pass, row_passes, square_fits}
 use Rattle.ranges.proofs.ScanLaws.{all-and, all_split}
 use Rattle.lists.proofs.CutLaws.{cut, cut-count, cut-get, cut-room, part-first, part-rest, block-within}
 
@@ -179,7 +179,7 @@ pub within-seven : (apart k : ℕ) → k < 7 → apart * k + apart ≤ 7 * apart
 within-seven apart k l = omega (arith, mul-le-mul_left apart l)
 
 pub square-lent : (b : List ℕ) (apart stride n k : ℕ) → n ≤ stride → stride * n ≤ apart → apart * 7 ≤ length b → k < 7
-    → Fronts (take (apart * k + apart - apart * k) (drop (apart * k) b)) stride n
+    → SquareFitsAsks (take (apart * k + apart - apart * k) (drop (apart * k) b)) stride n
 square-lent b apart stride n k wide fit room l = record { wide = wide; room = omega (arith, fit, part_length b (apart * k) apart (omega (arith, within-seven apart k l, room))) }
 
 -- each a slice of its own

@@ -19,12 +19,12 @@ pub record SquareOf (marks : List ℕ) (stride n : ℕ) : Type 0 where
   pub size : length marks ≡ stride * n
 
 -- at the front of some cells
-pub record Fronts (square : List ℕ) (stride n : ℕ) : Type 0 where
+pub record SquareFitsAsks (square : List ℕ) (stride n : ℕ) : Type 0 where
   pub wide : n ≤ stride
   pub room : stride * n ≤ length square
 
 -- for each of the seven baskets
-pub record Squares (marks : List ℕ) (apart stride n : ℕ) : Type 0 where
+pub record PairsFitAsks (marks : List ℕ) (apart stride n : ℕ) : Type 0 where
   pub wide : n ≤ stride
   pub square : stride * n ≤ apart
   pub room : apart * 7 ≤ length marks

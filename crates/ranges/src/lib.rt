@@ -5,7 +5,7 @@ ghost use Rattle.std.specs.Prelude.{◌≡◌, ℕ, ◌-◌, ◌*◌, ◌/◌, �
 ghost use Rattle.lists.specs.Tables.{table};
 ghost use Rattle.lists.specs.Parts.{grid};
 ghost use Rattle.rule.specs.Sound.{sizes_fit, at_most, pairs_fit};
-ghost use Rattle.ranges.specs.Ranges.{SquareOf, Fronts, Squares, issue_fits, terms_in_range, all_pass, none_on_oneself, square_fits};
+ghost use Rattle.ranges.specs.Ranges.{SquareOf, SquareFitsAsks, PairsFitAsks, issue_fits, terms_in_range, all_pass, none_on_oneself, square_fits};
 
 use lists::Rows;
 
@@ -127,7 +127,7 @@ impl<'a> Square<'a> {
 
 // One basket's pair marks, at the front of its cells.
 fn square_fits(square: &[u64], stride: usize, n: usize) -> bool
-    requires { Fronts square.now stride n }
+    requires { SquareFitsAsks square.now stride n }
     ensures { result ≡ square_fits square.now 0 stride n }
 {
     let square = Square {
@@ -140,7 +140,7 @@ fn square_fits(square: &[u64], stride: usize, n: usize) -> bool
 
 // The pair marks of the seven baskets, each basket's so many cells after the last one's.
 pub fn pairs_fit(marks: &[u64], apart: usize, stride: usize, n: usize) -> bool
-    requires { Squares marks.now apart stride n }
+    requires { PairsFitAsks marks.now apart stride n }
     ensures { result ≡ pairs_fit n (table 7 (λ k. grid marks.now (apart * k) stride n n)) }
 {
     (0..layout::BASKETS).all(|k| {

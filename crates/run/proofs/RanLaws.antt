@@ -24,21 +24,21 @@ use Rattle.rule.proofs.BookLaws.{SoundBook}
 use Rattle.rule.proofs.LayoutLaws.{Shaped, Holds, view-shaped, view-holds, signed-cell, given-kept, stored_is, outside-sizes, outside-position, outside-notice, outside-pair, outside-tally}
 use Rattle.rule.proofs.RunLaws.{Runnable}
 use Rattle.rule.proofs.RunSound.{ran-shaped}
-use Rattle.value.specs.Quotes.{Quotes, Termed}
+use Rattle.value.specs.Quotes.{Quotes, QuoteFillAsks}
 use Rattle.value.specs.declared.Quote.{Quote}
 use Rattle.value.proofs.TermLaws.{sound-termed}
 use Rattle.std.specs.Array.{AllOfLen}
 use Rattle.arrayvec.specs.ArrayVec.{ArrayVec}
 use denote.Bor.{Bor}
 use Rattle.lists.specs.Rows.{Becomes}
-use Rattle.run_usable.specs.Stock.{Allocable}
+use Rattle.run_usable.specs.Stock.{AllocableRowsGives}
 use Rattle.run_usable.specs.declared.Stock.{Stock}
 use Rattle.run_post.specs.declared.listing.Lists.{Lists}
 use Rattle.run_post.specs.Listed.{SameLists}
 use Rattle.run_post.proofs.ListingLaws.{same-lists, same-then}
 use Rattle.run_order.specs.Sizes.{DaySized}
-use Rattle.run_basket.specs.Running.{done_to, BookedTo, Start, Running, Stocked, Done, BasketAsks}
-use Rattle.run.specs.Ran.{BasketsAsk, BasketsDone, Cleared, Ran}
+use Rattle.run_basket.specs.Running.{done_to, BookedTo, RunAsks, Running, Stocked, Done, RunBasketAsks}
+use Rattle.run.specs.Ran.{RunBasketsAsks, RunBasketsGives, ClearNoticesGives, RunGives}
 use Rattle.lists.proofs.RowLaws.{lent-size, lent-in, lent_out, where-is}
 use Rattle.run_order.proofs.OrderLaws.{orders-begin}
 use Rattle.run_basket.proofs.DoneLaws.{done_none, done_all}
@@ -55,7 +55,7 @@ pub record Baskets (b draw : List ℕ) (t₀ : Lists) (c : List ℕ) (orders : L
   pub done : Done b t₀.matches.now t₀.lines.now (done_to (view b) draw k) c orders used' t
   pub same : SameLists t₀ t
 
-module _ (b draw : List ℕ) (stock : Stock) (t₀ : Lists) (h : BasketsAsk b draw stock t₀) where
+module _ (b draw : List ℕ) (stock : Stock) (t₀ : Lists) (h : RunBasketsAsks b draw stock t₀) where
   nothing-done : Running b t₀.matches.now t₀.lines.now [] b (zeros lots_size) t₀
   unfolding used match_list line_list lines_from
   nothing-done = record {
@@ -82,16 +82,16 @@ module _ (b draw : List ℕ) (stock : Stock) (t₀ : Lists) (h : BasketsAsk b dr
   }
 
   module _ {c : List ℕ} {orders : List (ArrayVec ℕ)} {used' : List ℕ} {t : Lists} {k : ℕ} (w : Baskets b draw t₀ c orders used' t k) where
-    pub basket-asked : k < baskets → BasketAsks k c draw stock orders used' t
+    pub basket-asked : k < baskets → RunBasketAsks k c draw stock orders used' t
     basket-asked x = record { b₀ = b; m₀ = t₀.matches.now; l₀ = t₀.lines.now; begun = record { start = h.start; basket = x; stocked = h.stocked; running = w.done.running; kept = w.done.kept } }
 
     pub baskets-more : (x : k < baskets) {c' : List ℕ} {orders' : List (ArrayVec ℕ)} {used'' : List ℕ} {t' : Lists}
-        → ((s : BasketAsks k c draw stock orders used' t) → Done s.b₀ s.m₀ s.l₀ (done_to (view s.b₀) draw (k + 1)) c' orders' used'' t')
+        → ((s : RunBasketAsks k c draw stock orders used' t) → Done s.b₀ s.m₀ s.l₀ (done_to (view s.b₀) draw (k + 1)) c' orders' used'' t')
         → SameLists t t' → Baskets b draw t₀ c' orders' used'' t' (k + 1)
     unfolding basket-asked
     baskets-more x f e = record { here = omega arith; done = f (basket-asked x); same = same-then w.same e }
 
-    pub baskets-all : baskets ≤ k → BasketsDone b draw t₀.matches.now t₀.lines.now c t
+    pub baskets-all : baskets ≤ k → RunBasketsGives b draw t₀.matches.now t₀.lines.now c t
     baskets-all x =
         let e : k ≡ baskets = omega (arith, w.here) in
         record {
@@ -152,7 +152,7 @@ module _ (b : List ℕ) (s : DaySized b) where
         cases q i y z (no f) =
             lent_out P c at m part cleared-room v (lots_cell notices_at q i) (inl (omega (arith, place, s.issues))) ∙ w.none q i (omega arith) z
 
-  pub cleared-all : {c : List ℕ} {p : ℕ} → ClearedTo b c p → n ≤ p → Cleared b c
+  pub cleared-all : {c : List ℕ} {p : ℕ} → ClearedTo b c p → n ≤ p → ClearNoticesGives b c
   cleared-all w y = record { size = w.size; none = λ q i x v. w.none q i (omega arith) v; kept = λ j f. w.kept j (λ q i x v. f q i (omega (arith, w.here)) v) }
 
 -- ---- the book that is left
@@ -165,7 +165,7 @@ rectangle-cell : (rows columns : ℕ) (f : ℕ → ℕ → ℕ) (r c : ℕ) → 
 rectangle-cell rows columns f r c l x =
     ap (λ (o : List ℕ). get_or o c 0) (get_or-table rows (λ r. table columns (λ c. f r c)) r [] l) ∙ get_or-table columns (λ c. f r c) c 0 x
 
-module _ (b draw : List ℕ) (s : SoundBook b) (h : Runnable (view b) draw) (c d : List ℕ) (w : BookedTo b (allocations (view b) draw) c) (v : Cleared c d) where
+module _ (b draw : List ℕ) (s : SoundBook b) (h : Runnable (view b) draw) (c d : List ℕ) (w : BookedTo b (allocations (view b) draw) c) (v : ClearNoticesGives c d) where
   abbrev done : List Allocation
   done = allocations (view b) draw
 
@@ -280,7 +280,7 @@ module _ (b draw : List ℕ) (s : SoundBook b) (h : Runnable (view b) draw) (c d
 
 -- ---- the whole
 
-module _ (b draw m₀ l₀ : List ℕ) (h : Start b draw m₀ l₀) where
+module _ (b draw m₀ l₀ : List ℕ) (h : RunAsks b draw m₀ l₀) where
   terms-sound : all_terms_fit (issues_in b) (view b).given.terms (view b).given.marks ≡ true
   unfolding view
   terms-sound = h.book.day.given.terms
@@ -290,7 +290,7 @@ module _ (b draw m₀ l₀ : List ℕ) (h : Start b draw m₀ l₀) where
     lent : length (take (issues_in b) row) ≡ issues_in b
     lent = length-take-le (issues_in b) row (omega (arith, wide, h.book.sizes.most))
 
-    pub quotes-lent : Termed (length (take (issues_in b) row)) issues
+    pub quotes-lent : QuoteFillAsks (length (take (issues_in b) row)) issues
     quotes-lent =
         sound-termed (length (take (issues_in b) row)) issues (book_marks b) (size ∙ sym lent)
         (rw there (ap (λ (n : ℕ). all_terms_fit n (book_terms b) (book_marks b)) lent
@@ -298,19 +298,19 @@ module _ (b draw m₀ l₀ : List ℕ) (h : Start b draw m₀ l₀) where
 
     -- the stock has them
     pub stocked : {quotes : Bor (List Quote)} {allocable : Bor (List ℕ)} → length quotes.now ≡ length (take (issues_in b) row) → Quotes (map terms_of issues) quotes.now
-        → Allocable b allocable.now → Stocked b (record { quotes = quotes; allocable = allocable })
+        → AllocableRowsGives b allocable.now → Stocked b (record { quotes = quotes; allocable = allocable })
     stocked {quotes} e r a = record {
       quotes = record { there = omega (arith, e, lent); quoted = subst (λ (rows : List (List ℕ)). Quotes (map terms_of rows) quotes.now) there r };
       lots = a;
     }
 
-  module _ {c : List ℕ} {t : Lists} (w : BasketsDone b draw m₀ l₀ c t) where
+  module _ {c : List ℕ} {t : Lists} (w : RunBasketsGives b draw m₀ l₀ c t) where
     pub clear-asked : DaySized c
     clear-asked = sized-kept b h.book (allocations (view b) draw) c w.running.booked
 
     -- the lists that were lent are those that the run wrote
-    pub run-done : {d matches lines : List ℕ} → Cleared c d → matches ≡ t.matches.now → lines ≡ t.lines.now
-        → Ran b draw m₀ l₀ (set d 2 (get_or d 2 0 + 1)) matches lines t.counts.matches t.counts.lines
+    pub run-done : {d matches lines : List ℕ} → ClearNoticesGives c d → matches ≡ t.matches.now → lines ≡ t.lines.now
+        → RunGives b draw m₀ l₀ (set d 2 (get_or d 2 0 + 1)) matches lines t.counts.matches t.counts.lines
     run-done {d} v x y = record {
       book = book-left b draw h.book (runnable b draw m₀ l₀ h) c d w.running.booked v;
       entries = x ∙ w.running.entries;
@@ -320,6 +320,6 @@ module _ (b draw m₀ l₀ : List ℕ) (h : Start b draw m₀ l₀) where
     }
 
     -- the count of runs stays small
-    pub runs-few : {d : List ℕ} → Cleared c d → get_or d 2 0 < 3
+    pub runs-few : {d : List ℕ} → ClearNoticesGives c d → get_or d 2 0 < 3
     unfolding view
     runs-few v = omega (arith, v.kept 2 (λ p i x z k. omega arith), low-kept b h.book (allocations (view b) draw) c w.running.booked 2 (omega arith), h.runs)

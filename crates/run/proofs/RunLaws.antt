@@ -21,8 +21,8 @@ use Rattle.rule.specs.Layout.{view, stored}
 use Rattle.rule.proofs.AnswerLaws.{answers}
 use Rattle.rule.proofs.BookLaws.{SoundBook}
 use Rattle.rule.proofs.DrawLaws.{draw-right}
-use Rattle.run_basket.specs.Running.{Start}
-use Rattle.run.specs.Ran.{Ran}
+use Rattle.run_basket.specs.Running.{RunAsks}
+use Rattle.run.specs.Ran.{RunGives}
 use Rattle.run.specs.Checked.{run_sound}
 
 -- ---- how many times the draw names a participant
@@ -77,22 +77,22 @@ module _ (b draw matches lines : List ℕ) where
         short-lines e = search (answers, rules) depth 12
 
         module _ (l : 7392 ≤ length lines) where
-          pub run-asks : SoundBook b → Start b draw matches lines
+          pub run-asks : SoundBook b → RunAsks b draw matches lines
           unfolding view
           run-asks s = record { book = s; runs = r; once = draw-right (get_or b 0 0) draw d; match_places = m; line_places = l }
 
           -- what was left, as one
-          all_left : {c x z : List ℕ} {i j : ℕ} → Ran b draw matches lines c x z i j
+          all_left : {c x z : List ℕ} {i j : ℕ} → RunGives b draw matches lines c x z i j
               → ◌≡◌ {A = List ℕ × List ℕ × List ℕ} (c, x, z)
               (stored b (ran (view b) (allocations (view b) draw)), over matches 0 (joined (match_list (allocations (view b) draw))), over lines 0 (joined (line_list (allocations (view b) draw))))
           all_left w = rw (w.book, w.entries, w.rows) refl
 
           -- the reply
-          all_told : {c x z : List ℕ} {i j : ℕ} → Ran b draw matches lines c x z i j → counts i j ≡ run_reply (allocations (view b) draw)
+          all_told : {c x z : List ℕ} {i j : ℕ} → RunGives b draw matches lines c x z i j → counts i j ≡ run_reply (allocations (view b) draw)
           unfolding run_reply
           all_told w = ap₂ counts w.match_count w.line_count
 
-          pub all-ran : {c x z : List ℕ} {i j : ℕ} → Ran b draw matches lines c x z i j → ◌≡◌ {A = Answer} (counts i j, (c, x, z)) (run_sound b draw matches lines)
+          pub all-ran : {c x z : List ℕ} {i j : ℕ} → RunGives b draw matches lines c x z i j → ◌≡◌ {A = Answer} (counts i j, (c, x, z)) (run_sound b draw matches lines)
           all-ran {c} {x} {z} {i} {j} w = ap (λ (q : Reply). (q, (c, x, z))) (all_told w) ∙ passed (all_left w)
             where
               passed : ◌≡◌ {A = List ℕ × List ℕ × List ℕ} (c, x, z)

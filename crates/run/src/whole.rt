@@ -1,8 +1,8 @@
 // A run on a sound book: the seven baskets, and what they leave.
 ghost use Rattle.run_order.specs.Sizes.{DaySized};
 ghost use Rattle.run_post.specs.Listed.{SameLists};
-ghost use Rattle.run_basket.specs.Running.{Start};
-ghost use Rattle.run.specs.Ran.{BasketsAsk, BasketsDone, Cleared, Ran};
+ghost use Rattle.run_basket.specs.Running.{RunAsks};
+ghost use Rattle.run.specs.Ran.{RunBasketsAsks, RunBasketsGives, ClearNoticesGives, RunGives};
 
 use issue_order::Order;
 use reply::Counts;
@@ -12,8 +12,8 @@ use value::Quote;
 
 // "Basket by basket, A first".
 fn run_baskets(book: &mut [u64], draw: &[u64], stock: Stock, lists: &mut Lists)
-    requires { BasketsAsk book.old draw.now stock lists.old }
-    ensures done { BasketsDone book.old draw.now lists.old.matches.now lists.old.lines.now book.new lists.new }
+    requires { RunBasketsAsks book.old draw.now stock lists.old }
+    ensures done { RunBasketsGives book.old draw.now lists.old.matches.now lists.old.lines.now book.new lists.new }
     ensures same { SameLists lists.old lists.new }
 {
     let mut used = [0u64; layout::LOTS];
@@ -38,7 +38,7 @@ fn run_baskets(book: &mut [u64], draw: &[u64], stock: Stock, lists: &mut Lists)
 // "Every accepted run clears all notices".
 fn clear_notices(book: &mut [u64])
     requires { DaySized book.old }
-    ensures { Cleared book.old book.new }
+    ensures { ClearNoticesGives book.old book.new }
 {
     let participants = book[layout::PARTICIPANTS] as usize;
     let issues = book[layout::ISSUES] as usize;
@@ -51,8 +51,8 @@ fn clear_notices(book: &mut [u64])
 // A run on a sound book, with a right draw and lists that are long enough. The book stays a slice, as the C interface lends it, and is written
 // between: each function that reads its sizes asks for them.
 pub fn run(book: &mut [u64], draw: &[u64], matches: &mut [u64], lines: &mut [u64]) -> Counts
-    requires { Start book.old draw.now matches.old lines.old }
-    ensures { Ran book.old draw.now matches.old lines.old book.new matches.new lines.new result.matches result.lines }
+    requires { RunAsks book.old draw.now matches.old lines.old }
+    ensures { RunGives book.old draw.now matches.old lines.old book.new matches.new lines.new result.matches result.lines }
 {
     let issues = book[layout::ISSUES] as usize;
     let mut allocable = [0u64; layout::LOTS];

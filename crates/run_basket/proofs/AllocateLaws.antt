@@ -17,9 +17,9 @@ use Rattle.matching.specs.Plans.{rule_match}
 use Rattle.matching.specs.declared.Match.{Match as Entry}
 use Rattle.issue_order.specs.Ordered.{Ordered}
 use Rattle.layout.specs.InBook.{issues_in}
-use Rattle.run_order.specs.Orders.{Same, Orders, key_in, OrderedAt, OrderAsked, OrderFor}
+use Rattle.run_order.specs.Orders.{Same, Orders, key_in, OrderedAt, OrderForAsks, OrderForGives}
 use Rattle.run_match.specs.declared.Basket.{Basket}
-use Rattle.run_match.specs.Filled.{match_may_use, UsableAsked, UsableLots, Fillable, filled_in, Writable, Wrote}
+use Rattle.run_match.specs.Filled.{match_may_use, UsableLotsAsks, UsableLotsGives, FillNextAsks, filled_in, WriteNextAsks, WriteNextGives}
 use Rattle.run_post.specs.declared.listing.Lists.{Lists}
 use Rattle.run_post.specs.Listed.{SameLists}
 use Rattle.run_post.proofs.ListingLaws.{same-lists, same-then}
@@ -83,13 +83,13 @@ module _ (B : Basket) (b₁ : List ℕ) (made : List Entry) (orders₁ : List (A
     -- ---- the next match
 
     module _ (e : Entry) (h : j < length made) (E : e ≡ get_or made j e) where
-      pub usable-asked : Asks → UsableAsked b B e used (length usable₀)
+      pub usable-asked : Asks → UsableLotsAsks b B e used (length usable₀)
       usable-asked s =
           usable-asks s.b₀ s.draw s.m₀ s.l₀ s.begun.start B s.begun.basket made s.planning j e h E s.begun.stocked
           b used t (w.running s) (length usable₀) (w.wide ∙ issues-same s)
 
-      module _ {usable : List ℕ} {all : ℕ} (U : UsableLots b B e used usable all) where
-        pub order-asked : Asks → OrderAsked b before last e usable orders order
+      module _ {usable : List ℕ} {all : ℕ} (U : UsableLotsGives b B e used usable all) where
+        pub order-asked : Asks → OrderForAsks b before last e usable orders order
         order-asked s =
             order-asks s.b₀ s.draw s.m₀ s.l₀ s.begun.start B s.begun.basket made s.planning j e h E s.begun.stocked
             b used t (w.running s) usable all U last orders order (w.kept s) (λ x y. same y (w.last_is s x y.before y.there))
@@ -101,19 +101,19 @@ module _ (B : Basket) (b₁ : List ℕ) (made : List Entry) (orders₁ : List (A
                 subst (λ (x : Bool). Ordered (issues_in s.b₀) (key_in s.b₀ before e.deliverer x) (match_may_use B used e.deliverer) order) y.sort
                 (subst (λ (x : ℕ). Ordered (issues_in s.b₀) (key_in s.b₀ before x y.before.preferential) (match_may_use B used x) order) y.deliverer o)
 
-      module _ {usable : List ℕ} {all : ℕ} (U : UsableLots b B e used usable all) {orders' : List (ArrayVec ℕ)} {order' : List ℕ} (O : OrderFor b before e usable all orders' order') where
-        pub fill-asked : (lots : List ℕ) → lots ≡ zeros (issues_in b) → Asks → Fillable b B.stock e usable all order' lots
+      module _ {usable : List ℕ} {all : ℕ} (U : UsableLotsGives b B e used usable all) {orders' : List (ArrayVec ℕ)} {order' : List ℕ} (O : OrderForGives b before e usable all orders' order') where
+        pub fill-asked : (lots : List ℕ) → lots ≡ zeros (issues_in b) → Asks → FillNextAsks b B.stock e usable all order' lots
         fill-asked lots v s =
             fill-asks s.b₀ s.draw s.m₀ s.l₀ s.begun.start B s.begun.basket made s.planning j e h E s.begun.stocked
             b used t (w.running s) usable all U orders' order' O lots v
 
         module _ {f : Filling} {lots : List ℕ} (A : FilledAs (filled_in b k e usable order') f lots) where
-          pub write-asked : Asks → Writable b k e f lots used t
+          pub write-asked : Asks → WriteNextAsks b k e f lots used t
           write-asked s =
               write-asks s.b₀ s.draw s.m₀ s.l₀ s.begun.start B s.begun.basket made s.planning j e h E s.begun.stocked
               b used t (w.running s) usable all U orders' order' O f lots A
 
-          pub allocating-more : {b' used' : List ℕ} {t' : Lists} → length usable ≡ length usable₀ → Wrote b k e f lots used t b' used' t'
+          pub allocating-more : {b' used' : List ℕ} {t' : Lists} → length usable ≡ length usable₀ → WriteNextGives b k e f lots used t b' used' t'
               → Allocating b' orders' used' order' t' (Some e) usable (j + 1)
           allocating-more {b'} {used'} {t'} z₀ W = record {
             here = omega arith;

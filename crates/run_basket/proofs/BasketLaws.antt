@@ -22,10 +22,10 @@ use Rattle.layout.specs.InBook.{issues_in}
 use Rattle.run_match.specs.Filled.{plan_in}
 use Rattle.run_match.specs.declared.Basket.{Basket}
 use Rattle.run_post.specs.declared.listing.Lists.{Lists}
-use Rattle.run_basket.specs.Running.{done_to, BookedTo, Done, BasketAsks, AllocateAsks}
+use Rattle.run_basket.specs.Running.{done_to, BookedTo, Done, RunBasketAsks, AllocateAsks}
 use Rattle.run_basket.proofs.ReadLaws.{issues-kept, terms-in-kept, plan-kept, nothing-covered}
 
-module _ (k : ℕ) (b draw : List ℕ) (stock : Stock) (orders : List (ArrayVec ℕ)) (used' : List ℕ) (t : Lists) (s : BasketAsks k b draw stock orders used' t) where
+module _ (k : ℕ) (b draw : List ℕ) (stock : Stock) (orders : List (ArrayVec ℕ)) (used' : List ℕ) (t : Lists) (s : RunBasketAsks k b draw stock orders used' t) where
   abbrev b₀ : List ℕ
   b₀ = s.b₀
 

@@ -24,7 +24,7 @@ use Rattle.rule.proofs.BookLaws.{SoundBook}
 use Rattle.rule.proofs.LayoutLaws.{Shaped, Holds, view-shaped, view-signed, view-holds, signed-cell}
 use Rattle.rule.proofs.RunLaws.{Runnable, Allocated, covered-from, covered-to}
 use Rattle.rule.proofs.RunLots.{lots-from-most, lots-to-most}
-use Rattle.run_post.specs.Booked.{YenMoved, LotsMoved}
+use Rattle.run_post.specs.Booked.{MoveYenGives, LotsMoved}
 use Rattle.layout.specs.InBook.{participants_in, issues_in}
 use Rattle.run_basket.specs.Running.{out_of, back_to, BookedTo}
 use Rattle.run_basket.proofs.DoneLaws.{Part, part-total}
@@ -221,7 +221,7 @@ module _ (b : List ℕ) (s : SoundBook b) where
     unfolding lots_to
     back-else p i e = more_no (λ a. eqb a.match.receiver p) (λ a. all_lots a.filled i) done a (ne_eqb R p e)
 
-    module _ (c c' c'' lots : List ℕ) (w : BookedTo b done c) (u : YenMoved c c' K D R x) (v : LotsMoved c' c'' D R lots) (size : length lots ≡ issues_in b)
+    module _ (c c' c'' lots : List ℕ) (w : BookedTo b done c) (u : MoveYenGives c c' K D R x) (v : LotsMoved c' c'' D R lots) (size : length lots ≡ issues_in b)
         (same : (i : ℕ) → get_or lots i 0 ≡ all_lots a.filled i) where
       -- a place outside the tally's two rows
       lots-kept : (j : ℕ) → ((i : ℕ) → i < issues_in b → j ≢ lots_cell tally_at D i) → ((i : ℕ) → i < issues_in b → j ≢ lots_cell tally_at R i) → get_or c'' j 0 ≡ get_or c' j 0

@@ -36,15 +36,15 @@ use Rattle.lists.proofs.OrderLaws.{ranked-alike, ranked-below}
 use Rattle.arrayvec.specs.ArrayVec.{ArrayVec}
 use Rattle.run_usable.specs.Stock.{inside_of, usable_of}
 use Rattle.layout.specs.InBook.{participants_in, issues_in, book_terms, book_marks}
-use Rattle.run_order.specs.Orders.{key_in, OrderedAt, OrderFor}
-use Rattle.run_match.specs.Filled.{match_may_use, match_usable, UsableLots, filled_in}
+use Rattle.run_order.specs.Orders.{key_in, OrderedAt, OrderForGives}
+use Rattle.run_match.specs.Filled.{match_may_use, match_usable, UsableLotsGives, filled_in}
 use Rattle.run_match.specs.declared.Basket.{Basket}
 use Rattle.run_post.specs.declared.listing.Lists.{Lists}
-use Rattle.run_basket.specs.Running.{done_to, done_in, done_at, Start, Running, Stocked, Planning}
+use Rattle.run_basket.specs.Running.{done_to, done_in, done_at, RunAsks, Running, Stocked, Planning}
 use Rattle.run_basket.proofs.DoneLaws.{next_of, done_next, Part, part_at, part-every}
 use Rattle.run_basket.proofs.ReadLaws.{terms-read, notices-read, runs-read, allocable-read, terms-are, low-kept, issues-kept, rows-kept, marks-are, notices-kept}
 
-pub runnable : (b draw m₀ l₀ : List ℕ) → Start b draw m₀ l₀ → Runnable (view b) draw
+pub runnable : (b draw m₀ l₀ : List ℕ) → RunAsks b draw m₀ l₀ → Runnable (view b) draw
 unfolding view
 runnable b draw m₀ l₀ s = record {
   shaped = view-shaped b s.book.readable;
@@ -58,7 +58,7 @@ last_of : (P : Allocation → Type 0) (xs : List Allocation) (a : Allocation) �
 last_of P [] a h = h.0
 last_of P (x ∷ xs) a h = last_of P xs a h.1
 
-module _ (b draw m₀ l₀ : List ℕ) (S : Start b draw m₀ l₀) (B : Basket) (basket : B.number < baskets) (made : List Entry)
+module _ (b draw m₀ l₀ : List ℕ) (S : RunAsks b draw m₀ l₀) (B : Basket) (basket : B.number < baskets) (made : List Entry)
     (P : Planning b draw B made) (j : ℕ) (e : Entry) (l : j < length made) (E : e ≡ get_or made j e) where
   abbrev k : ℕ
   k = B.number
@@ -134,7 +134,7 @@ module _ (b draw m₀ l₀ : List ℕ) (S : Start b draw m₀ l₀) (B : Basket)
   -- ---- filled as the definition fills it
 
   module _ (T : Stocked b B.stock) (c used' : List ℕ) (t : Lists) (R : Running b m₀ l₀ done c used' t)
-      (usable' : List ℕ) (all : ℕ) (U : UsableLots c B e used' usable' all) (orders : List (ArrayVec ℕ)) (order : List ℕ) (O : OrderFor c before e usable' all orders order) where
+      (usable' : List ℕ) (all : ℕ) (U : UsableLotsGives c B e used' usable' all) (orders : List (ArrayVec ℕ)) (order : List ℕ) (O : OrderForGives c before e usable' all orders order) where
     used-here : (i : ℕ) → i < m → get_or used' (row_cell d i) 0 ≡ cell used-earlier d i + used of-basket d i
     unfolding done_at view
     used-here i h =

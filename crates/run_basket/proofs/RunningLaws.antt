@@ -39,14 +39,14 @@ use Rattle.issue_order.proofs.OrderLaws.{ordered-moved}
 use Rattle.arrayvec.specs.ArrayVec.{ArrayVec}
 use Rattle.run_usable.specs.Stock.{marks_in, allocable_in, inside_of, usable_of}
 use Rattle.run_post.specs.Listed.{entry_cells, lines_for}
-use Rattle.run_post.specs.Booked.{YenMoved, LotsMoved}
+use Rattle.run_post.specs.Booked.{MoveYenGives, LotsMoved}
 use Rattle.layout.specs.InBook.{participants_in, issues_in}
-use Rattle.run_order.specs.Orders.{Same, notified_in, Orders, OrderedAt, OrderAsked, OrderFor}
+use Rattle.run_order.specs.Orders.{Same, notified_in, Orders, OrderedAt, OrderForAsks, OrderForGives}
 use Rattle.run_match.specs.declared.Basket.{Basket}
-use Rattle.run_match.specs.Filled.{match_may_use, QuotesOf, UsableAsked, UsableLots, Fillable, filled_in, lots_with, Writable, Wrote}
+use Rattle.run_match.specs.Filled.{match_may_use, QuotesOf, UsableLotsAsks, UsableLotsGives, FillNextAsks, filled_in, lots_with, WriteNextAsks, WriteNextGives}
 use Rattle.run_order.proofs.OrderLaws.{orders-moved}
 use Rattle.run_post.specs.declared.listing.Lists.{Lists}
-use Rattle.run_basket.specs.Running.{done_at, BookedTo, Start, Running, Stocked, Planning}
+use Rattle.run_basket.specs.Running.{done_at, BookedTo, RunAsks, Running, Stocked, Planning}
 use Rattle.run_basket.proofs.DoneLaws.{next_of, Part, part-total, part_length}
 use Rattle.run_basket.proofs.BookedLaws.{booked-more, more_yes, more_no}
 use Rattle.run_basket.proofs.ReadLaws.{notices-read, allocable-read, sized-kept, issues-kept, rows-kept, notices-kept}
@@ -65,10 +65,10 @@ usable-falls inside allocable used used' h = cases inside
     cases false = omega arith
 
 -- what may be used is as long as there are issues
-pub usable-wide : {c : List ℕ} {B : Basket} {e : Entry} {used usable : List ℕ} {all : ℕ} → UsableLots c B e used usable all → length usable ≡ issues_in c
+pub usable-wide : {c : List ℕ} {B : Basket} {e : Entry} {used usable : List ℕ} {all : ℕ} → UsableLotsGives c B e used usable all → length usable ≡ issues_in c
 usable-wide {c} {B} {e} {used} U = ap length U.row ∙ length-table (issues_in c) (match_may_use B used e.deliverer)
 
-module _ (b draw m₀ l₀ : List ℕ) (S : Start b draw m₀ l₀) (B : Basket) (basket : B.number < baskets) (made : List Entry)
+module _ (b draw m₀ l₀ : List ℕ) (S : RunAsks b draw m₀ l₀) (B : Basket) (basket : B.number < baskets) (made : List Entry)
     (P : Planning b draw B made) (j : ℕ) (e : Entry) (l : j < length made) (E : e ≡ get_or made j e) (T : Stocked b B.stock) where
   abbrev k : ℕ
   k = B.number
@@ -228,7 +228,7 @@ module _ (b draw m₀ l₀ : List ℕ) (S : Start b draw m₀ l₀) (B : Basket)
       quoted = subst (λ (ts : List Terms). Quotes ts B.stock.quotes.now) (sym (ap (map terms_of) (rows-kept b S.book done c R.booked))) T.quotes.quoted;
     }
 
-    pub usable-asks : (places : ℕ) → places ≡ issues_in c → UsableAsked c B e used' places
+    pub usable-asks : (places : ℕ) → places ≡ issues_in c → UsableLotsAsks c B e used' places
     usable-asks places v = record {
       sized = sized-kept b S.book done c R.booked;
       deliverer = omega (arith, deliverer, S.book.sizes.few);
@@ -251,7 +251,7 @@ module _ (b draw m₀ l₀ : List ℕ) (S : Start b draw m₀ l₀) (B : Basket)
     pub orders-kept : (orders : List (ArrayVec ℕ)) → Orders c orders → Orders b orders
     orders-kept orders O = orders-moved c b issues-same (λ p i y x. notice-same p i y (omega (arith, issues-same))) O
 
-    module _ (usable' : List ℕ) (all : ℕ) (U : UsableLots c B e used' usable' all) where
+    module _ (usable' : List ℕ) (all : ℕ) (U : UsableLotsGives c B e used' usable' all) where
       usable_at : (i : ℕ) → i < issues_in c → get_or usable' i 0 ≡ match_may_use B used' d i
       usable_at i x = ap (λ (v : List ℕ). get_or v i 0) U.row ∙ get_or-table (issues_in c) (match_may_use B used' d) i 0 x
 
@@ -262,7 +262,7 @@ module _ (b draw m₀ l₀ : List ℕ) (S : Start b draw m₀ l₀) (B : Basket)
           (λ i x. omega (arith, usable_at i (omega (arith, issues-same)))) o
 
       pub order-asks : (last : Option Entry) (orders : List (ArrayVec ℕ)) (order : List ℕ) → Orders b orders → (0 < length order → Same last e → OrderedAt b before e (match_may_use B used' d) order)
-          → OrderAsked c before last e usable' orders order
+          → OrderForAsks c before last e usable' orders order
       order-asks last orders order O same = record {
         amount = amount_most;
         loadable = record {
@@ -276,8 +276,8 @@ module _ (b draw m₀ l₀ : List ℕ) (S : Start b draw m₀ l₀) (B : Basket)
         last_is = λ x s. order-now order (same x s);
       }
 
-    module _ (usable' : List ℕ) (all : ℕ) (U : UsableLots c B e used' usable' all) (orders : List (ArrayVec ℕ)) (order : List ℕ) (O : OrderFor c before e usable' all orders order) where
-      pub fill-asks : (lots : List ℕ) → lots ≡ zeros (issues_in c) → Fillable c B.stock e usable' all order lots
+    module _ (usable' : List ℕ) (all : ℕ) (U : UsableLotsGives c B e used' usable' all) (orders : List (ArrayVec ℕ)) (order : List ℕ) (O : OrderForGives c before e usable' all orders order) where
+      pub fill-asks : (lots : List ℕ) → lots ≡ zeros (issues_in c) → FillNextAsks c B.stock e usable' all order lots
       fill-asks lots v = record {
         sized = sized-kept b S.book done c R.booked;
         deliverer = omega (arith, deliverer, S.book.sizes.few);
@@ -309,7 +309,7 @@ module _ (b draw m₀ l₀ : List ℕ) (S : Start b draw m₀ l₀) (B : Basket)
         lines_fit : line_size * length (line_list done) + line_size * length (lines_of (length done) a) ≤ line_size * most_lines
         lines_fit = omega (arith, lines-few, ap length (lines_more done a), length-append (line_list done) (lines_of (length done) a))
 
-        pub write-asks : Writable c k e f lots used' t
+        pub write-asks : WriteNextAsks c k e f lots used' t
         write-asks = record {
           basket = basket;
           match_room = omega (arith, R.match_count, matches-few, R.match_size, S.match_places);
@@ -335,10 +335,10 @@ module _ (b draw m₀ l₀ : List ℕ) (S : Start b draw m₀ l₀) (B : Basket)
 
         -- ---- what is left
 
-        module _ (c' used'' : List ℕ) (t' : Lists) (W : Wrote c k e f lots used' t c' used'' t') where
-          yen : YenMoved c W.between a.basket a.match.deliverer a.match.receiver a.filled.covered
+        module _ (c' used'' : List ℕ) (t' : Lists) (W : WriteNextGives c k e f lots used' t c' used'' t') where
+          yen : MoveYenGives c W.between a.basket a.match.deliverer a.match.receiver a.filled.covered
           unfolding next_of allocate
-          yen = subst (λ (x : ℕ). YenMoved c W.between k d r x) F.covered W.yen
+          yen = subst (λ (x : ℕ). MoveYenGives c W.between k d r x) F.covered W.yen
 
           moved : LotsMoved W.between c' a.match.deliverer a.match.receiver (lots_with f lots)
           unfolding next_of allocate

@@ -14,7 +14,7 @@ use Rattle.rule.proofs.BookLaws.{SoundBook}
 use Rattle.rule.proofs.DrawLaws.{EachOnce}
 use Rattle.matching.specs.Plans.{rule_match}
 use Rattle.matching.specs.declared.Match.{Match as Entry}
-use Rattle.run_usable.specs.Stock.{inside_of, Allocable}
+use Rattle.run_usable.specs.Stock.{inside_of, AllocableRowsGives}
 use Rattle.run_usable.specs.declared.Stock.{Stock}
 use Rattle.run_post.specs.declared.listing.Lists.{Lists}
 use Rattle.layout.specs.InBook.{participants_in, issues_in}
@@ -64,7 +64,7 @@ pub record BookedTo (b : List ℕ) (done : List Allocation) (c : List ℕ) : Typ
 -- ---- all of it
 
 -- what a run asks: a sound book, a run left, a right draw and lists that are long enough
-pub record Start (b draw matches lines : List ℕ) : Type 0 where
+pub record RunAsks (b draw matches lines : List ℕ) : Type 0 where
   pub book : SoundBook b
   pub runs : (view b).state.runs < 3
   pub once : EachOnce draw (participants_in b)
@@ -93,17 +93,17 @@ pub record Done (b₀ m₀ l₀ : List ℕ) (done : List Allocation) (b : List �
 -- the stock of a run, from the book as it was
 pub record Stocked (b : List ℕ) (s : Stock) : Type 0 where
   pub quotes : QuotesOf b s
-  pub lots : Allocable b s.allocable.now
+  pub lots : AllocableRowsGives b s.allocable.now
 
 pub record Begun (b₀ draw m₀ l₀ : List ℕ) (k : ℕ) (b : List ℕ) (s : Stock) (orders : List (ArrayVec ℕ)) (used' : List ℕ) (t : Lists) : Type 0 where
-  pub start : Start b₀ draw m₀ l₀
+  pub start : RunAsks b₀ draw m₀ l₀
   pub basket : k < baskets
   pub stocked : Stocked b₀ s
   pub running : Running b₀ m₀ l₀ (done_to (view b₀) draw k) b used' t
   pub kept : Orders b₀ orders
 
 -- some book and lists from which the run began
-pub record BasketAsks (k : ℕ) (b draw : List ℕ) (s : Stock) (orders : List (ArrayVec ℕ)) (used' : List ℕ) (t : Lists) : Type 0 where
+pub record RunBasketAsks (k : ℕ) (b draw : List ℕ) (s : Stock) (orders : List (ArrayVec ℕ)) (used' : List ℕ) (t : Lists) : Type 0 where
   pub b₀ : List ℕ
   pub m₀ : List ℕ
   pub l₀ : List ℕ

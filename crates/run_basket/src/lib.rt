@@ -4,7 +4,7 @@
 ghost use Rattle.std.specs.Prelude.{◌+◌};
 ghost use Rattle.rule.specs.Layout.{view};
 ghost use Rattle.run_post.specs.Listed.{SameLists};
-ghost use Rattle.run_basket.specs.Running.{done_to, Done, BasketAsks, AllocateAsks};
+ghost use Rattle.run_basket.specs.Running.{done_to, Done, RunBasketAsks, AllocateAsks};
 
 use issue_order::Order;
 use matching::{Match, Plan};
@@ -71,8 +71,8 @@ pub fn run_basket(
     before: &mut [u64; layout::LOTS],
     lists: &mut Lists,
 )
-    requires { BasketAsks number book.old draw.now stock orders.old used.old lists.old }
-    ensures done { (s : BasketAsks number book.old draw.now stock.entry orders.old used.old lists.old)
+    requires { RunBasketAsks number book.old draw.now stock orders.old used.old lists.old }
+    ensures done { (s : RunBasketAsks number book.old draw.now stock.entry orders.old used.old lists.old)
         → Done s.b₀ s.m₀ s.l₀ (done_to (view s.b₀) draw.now (number + 1)) book.new orders.new used.new lists.new }
     ensures same { SameLists lists.old lists.new }
 {

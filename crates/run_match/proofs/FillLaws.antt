@@ -15,15 +15,15 @@ use Rattle.rule.specs.Layout.{runs_at, notices_at, row_start, lots_row}
 use Rattle.filling.specs.Match.{FilledAs}
 use Rattle.filling.specs.declared.Filling.{Filling}
 use Rattle.matching.specs.declared.Match.{Match as Entry}
-use Rattle.run_usable.specs.Stock.{usable_of, may_use, Usable as RowUsable, Usables}
+use Rattle.run_usable.specs.Stock.{usable_of, may_use, UsableRowAsks, UsableRowGives}
 use Rattle.run_usable.proofs.StockLaws.{usable_most}
 use Rattle.layout.specs.InBook.{issues_in, issue_rows, book_terms, book_marks}
 use Rattle.run_match.specs.declared.Basket.{Basket}
-use Rattle.run_match.specs.Filled.{match_may_use, match_usable, UsableAsked, UsableLots, filled_in}
+use Rattle.run_match.specs.Filled.{match_may_use, match_usable, UsableLotsAsks, UsableLotsGives, filled_in}
 
 -- ---- what may be used
 
-module _ {b : List ℕ} {B : Basket} {e : Entry} {used : List ℕ} {places : ℕ} (h : UsableAsked b B e used places) where
+module _ {b : List ℕ} {B : Basket} {e : Entry} {used : List ℕ} {places : ℕ} (h : UsableLotsAsks b B e used places) where
   abbrev m : ℕ
   m = issues_in b
 
@@ -40,7 +40,7 @@ module _ {b : List ℕ} {B : Basket} {e : Entry} {used : List ℕ} {places : ℕ
     gone-at : (i : ℕ) → i < m → get_or gone i 0 ≡ get_or used (at + i) 0
     gone-at i l = ap (λ (p : List ℕ). get_or p i 0) g ∙ block-get used at m i l
 
-    pub usable-asks : RowUsable inside allocable gone B.stock.quotes.now places
+    pub usable-asks : UsableRowAsks inside allocable gone B.stock.quotes.now places
     usable-asks = rw h.row (record {
       few = h.sized.issues;
       marked = h.marked;
@@ -51,7 +51,7 @@ module _ {b : List ℕ} {B : Basket} {e : Entry} {used : List ℕ} {places : ℕ
       enough = λ i l x. omega (arith, gone-at i l, allocable-at i l, h.enough i l x);
     })
 
-    module _ {usable : List ℕ} {all : ℕ} (w : Usables inside allocable gone B.stock.quotes.now places usable all) where
+    module _ {usable : List ℕ} {all : ℕ} (w : UsableRowGives inside allocable gone B.stock.quotes.now places usable all) where
       abbrev f : ℕ → ℕ
       f i = match_may_use B used e.deliverer i
 
@@ -69,7 +69,7 @@ module _ {b : List ℕ} {B : Basket} {e : Entry} {used : List ℕ} {places : ℕ
             usable_most (get_or inside i false) (get_or B.stock.allocable.now (at + i) 0) (get_or used (at + i) 0) 200_000_000 (h.allocable_most i l),
           )
 
-      pub usable-are : UsableLots b B e used usable all
+      pub usable-are : UsableLotsGives b B e used usable all
       usable-are = record {
         row = row_is;
         most = most;

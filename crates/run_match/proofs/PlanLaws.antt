@@ -11,12 +11,12 @@ use Rattle.rule.specs.Matching.{plan}
 use Rattle.rule.specs.Layout.{most_participants, square, runs_at, pairs_at, position_row, mark_square, plus, minus}
 use Rattle.arrayvec.specs.ArrayVec.{ArrayVec}
 use Rattle.matching.specs.declared.Match.{Match as Entry}
-use Rattle.matching.specs.Plans.{Basket, Planned, pair_marks}
+use Rattle.matching.specs.Plans.{PlanAsks, Planned, pair_marks}
 use Rattle.matching.proofs.CallerLaws.{sound-basket}
 use Rattle.layout.specs.InBook.{participants_in}
-use Rattle.run_match.specs.Filled.{positions_in, plan_in, PlanRows}
+use Rattle.run_match.specs.Filled.{positions_in, plan_in, PlanRowsAsks}
 
-module _ (b draw : List ℕ) (k : ℕ) (owed due : List ℕ) (h : PlanRows b draw k owed due) where
+module _ (b draw : List ℕ) (k : ℕ) (owed due : List ℕ) (h : PlanRowsAsks b draw k owed due) where
   abbrev n : ℕ
   n = participants_in b
 
@@ -38,7 +38,7 @@ module _ (b draw : List ℕ) (k : ℕ) (owed due : List ℕ) (h : PlanRows b dra
     due-is : due' ≡ map minus (positions_in b k)
     due-is = v ∙ ap (map minus) positions-are
 
-    pub plan-asks : Basket pairs draw owed' due'
+    pub plan-asks : PlanAsks pairs draw owed' due'
     plan-asks =
         rw (owed-is, due-is)
         (sound-basket n _ draw (positions_in b k) (length-block b (position_row k) n positions-fit) h.plannable.sized.participants

@@ -11,15 +11,15 @@ use Rattle.lists.proofs.RowLaws.{lent-size, lent-in, lent_out, where-is}
 use Rattle.filling.specs.declared.Filling.{Filling}
 use Rattle.matching.specs.declared.Match.{Match as Entry}
 use Rattle.run_post.specs.declared.listing.Lists.{Lists}
-use Rattle.run_post.specs.Booked.{YenMoved}
-use Rattle.run_post.specs.Listed.{entry_cells, Listed, MatchRoom, MatchAdded}
+use Rattle.run_post.specs.Booked.{MoveYenGives}
+use Rattle.run_post.specs.Listed.{entry_cells, Listed, AddMatchAsks, AddMatchGives}
 use Rattle.run_post.proofs.ListingLaws.{same-then}
-use Rattle.run_post.specs.Issues.{IssuesWritten}
-use Rattle.run_match.specs.Filled.{lots_with, UsedBy, LotsWritable, LotsWritten, Writable, Wrote}
+use Rattle.run_post.specs.Issues.{WriteIssuesGives}
+use Rattle.run_match.specs.Filled.{lots_with, UsedBy, WriteLotsAsks, WriteLotsGives, WriteNextAsks, WriteNextGives}
 
 -- ---- the lots
 
-module _ {b used : List ℕ} {s : Lists} {m : Entry} {f : Filling} {lots : List ℕ} (h : LotsWritable b used s m f lots) where
+module _ {b used : List ℕ} {s : Lists} {m : Entry} {f : Filling} {lots : List ℕ} (h : WriteLotsAsks b used s m f lots) where
   abbrev row : ℕ
   row = row_start m.deliverer
 
@@ -49,7 +49,7 @@ module _ {b used : List ℕ} {s : Lists} {m : Entry} {f : Filling} {lots : List 
   lent-row-is : (i : ℕ) → i < width → get_or lent-row i 0 ≡ get_or used (row + i) 0
   lent-row-is i l = ap (λ (p : List ℕ). get_or p i 0) (part-is used row width) ∙ block-get used row width i l
 
-  module _ {b' part : List ℕ} {t : Lists} (w : IssuesWritten b lent-row s m (lots_with f lots) b' part t) where
+  module _ {b' part : List ℕ} {t : Lists} (w : WriteIssuesGives b lent-row s m (lots_with f lots) b' part t) where
     abbrev u : List ℕ
     u = put_mid row (row + width - row) used part
 
@@ -100,7 +100,7 @@ module _ {b used : List ℕ} {s : Lists} {m : Entry} {f : Filling} {lots : List 
             ∙ lent-in With used row width part row-fits used-with i (omega (arith, size-with))
             ∙ ap (λ (x : ℕ). get_or used (row + i) 0 + x) (get_or-set_other lots f.forced i forced-all 0 d)
 
-    row-written : LotsWritten b used s m f lots b' used' t
+    row-written : WriteLotsGives b used s m f lots b' used' t
     row-written = record { gone = without-forced; listed = w.listed; moved = w.moved; only = w.only }
 
   -- the row as it is lent
@@ -110,22 +110,22 @@ module _ {b used : List ℕ} {s : Lists} {m : Entry} {f : Filling} {lots : List 
   abbrev back : List ℕ → ℕ → List ℕ
   back part at = put_mid at (at + width - at) used part
 
-  pub lots-written : {at : ℕ} → at ≡ row_start m.deliverer → {b' part : List ℕ} {t : Lists} → IssuesWritten b (lent at) s m (lots_with f lots) b' part t
-      → LotsWritten b used s m f lots b' (set (back part at) (at + f.forced) (get_or (back part at) (at + f.forced) 0 - further)) t
+  pub lots-written : {at : ℕ} → at ≡ row_start m.deliverer → {b' part : List ℕ} {t : Lists} → WriteIssuesGives b (lent at) s m (lots_with f lots) b' part t
+      → WriteLotsGives b used s m f lots b' (set (back part at) (at + f.forced) (get_or (back part at) (at + f.forced) 0 - further)) t
   lots-written start {b'} {part} {t} =
-      subst (λ (at : ℕ). IssuesWritten b (lent at) s m (lots_with f lots) b' part t
-      → LotsWritten b used s m f lots b' (set (back part at) (at + f.forced) (get_or (back part at) (at + f.forced) 0 - further)) t)
+      subst (λ (at : ℕ). WriteIssuesGives b (lent at) s m (lots_with f lots) b' part t
+      → WriteLotsGives b used s m f lots b' (set (back part at) (at + f.forced) (get_or (back part at) (at + f.forced) 0 - further)) t)
       (sym start) row-written
 
 -- ---- the match after its lots
 
 module _ {b between used : List ℕ} {k : ℕ} {s t : Lists} {m : Entry} {f : Filling} {lots b' used' : List ℕ}
-    (h : Writable b k m f lots used s) (y : YenMoved b between k m.deliverer m.receiver f.covered.0)
-    (w : LotsWritten between used s m f lots b' used' t) where
-  pub match-room : MatchRoom t.matches.now t.counts.matches
+    (h : WriteNextAsks b k m f lots used s) (y : MoveYenGives b between k m.deliverer m.receiver f.covered.0)
+    (w : WriteLotsGives between used s m f lots b' used' t) where
+  pub match-room : AddMatchAsks t.matches.now t.counts.matches
   match-room = record { places = omega (arith, h.match_room, w.only.match_count, w.only.same.match_places); small = omega (arith, h.match_few, w.only.match_count) }
 
-  pub match-written : {u : Lists} → MatchAdded t u k m f → Wrote b k m f lots used s b' used' u
+  pub match-written : {u : Lists} → AddMatchGives t u k m f → WriteNextGives b k m f lots used s b' used' u
   match-written {u} a = record {
     gone = w.gone;
     entry = a.entry ∙ ap₂ (λ (cells : List ℕ) (number : ℕ). over cells (match_size * number) (entry_cells k m.deliverer m.receiver m.amount.0 f)) w.only.matches w.only.match_count;

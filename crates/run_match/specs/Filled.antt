@@ -19,7 +19,7 @@ use Rattle.run_usable.specs.declared.Stock.{Stock}
 use Rattle.run_match.specs.declared.Basket.{Basket}
 use Rattle.run_post.specs.declared.listing.Lists.{Lists}
 use Rattle.run_post.specs.Listed.{entry_cells, lines_for, Listed, SameLists, LinesOnly}
-use Rattle.run_post.specs.Booked.{YenMoved, LotsMoved}
+use Rattle.run_post.specs.Booked.{MoveYenGives, LotsMoved}
 use Rattle.rule.specs.Sound.{position_limit, notice_limit}
 
 -- ---- the plan of a basket
@@ -32,14 +32,14 @@ unfoldable pub plan_in : List ℕ → List ℕ → ℕ → List Match
 plan_in b draw k =
     plan (get_or b runs_at 0) (grid b (mark_square pairs_at k) most_participants (participants_in b) (participants_in b)) draw (map plus (positions_in b k)) (map minus (positions_in b k))
 
-pub record Plannable (b draw : List ℕ) (k : ℕ) : Type 0 where
+pub record PlanBasketAsks (b draw : List ℕ) (k : ℕ) : Type 0 where
   pub sized : DaySized b
   pub basket : k < baskets
   pub drawn : EachOnce draw (participants_in b)
 
 -- and rows for the participants
-pub record PlanRows (b draw : List ℕ) (k : ℕ) (owed due : List ℕ) : Type 0 where
-  pub plannable : Plannable b draw k
+pub record PlanRowsAsks (b draw : List ℕ) (k : ℕ) (owed due : List ℕ) : Type 0 where
+  pub plannable : PlanBasketAsks b draw k
   pub owing : length owed ≡ participants_in b
   pub owned : length due ≡ participants_in b
 
@@ -57,7 +57,7 @@ pub record QuotesOf (b : List ℕ) (s : Stock) : Type 0 where
   pub there : issues_in b ≤ length s.quotes.now
   pub quoted : Quotes (book_terms b) s.quotes.now
 
-pub record UsableAsked (b : List ℕ) (B : Basket) (m : Entry) (used : List ℕ) (places : ℕ) : Type 0 where
+pub record UsableLotsAsks (b : List ℕ) (B : Basket) (m : Entry) (used : List ℕ) (places : ℕ) : Type 0 where
   pub sized : DaySized b
   pub deliverer : m.deliverer < most_participants
   pub quotes : QuotesOf b B.stock
@@ -70,14 +70,14 @@ pub record UsableAsked (b : List ℕ) (B : Basket) (m : Entry) (used : List ℕ)
   pub row : places ≡ issues_in b
 
 -- what match m may use, and what all of it is worth
-pub record UsableLots (b : List ℕ) (B : Basket) (m : Entry) (used usable : List ℕ) (all : ℕ) : Type 0 where
+pub record UsableLotsGives (b : List ℕ) (B : Basket) (m : Entry) (used usable : List ℕ) (all : ℕ) : Type 0 where
   pub row : usable ≡ match_usable b B used m.deliverer
   pub most : (i : ℕ) → i < issues_in b → get_or usable i 0 ≤ notice_limit
   pub worth_is : all ≡ worth (book_terms b) usable
 
 -- ---- filling
 
-pub record Fillable (b : List ℕ) (s : Stock) (m : Entry) (usable : List ℕ) (all : ℕ) (order lots : List ℕ) : Type 0 where
+pub record FillNextAsks (b : List ℕ) (s : Stock) (m : Entry) (usable : List ℕ) (all : ℕ) (order lots : List ℕ) : Type 0 where
   pub sized : DaySized b
   pub deliverer : m.deliverer < most_participants
   pub amount : m.amount.0 ≤ position_limit
@@ -100,7 +100,7 @@ abbrev pub lots_with : Filling → List ℕ → List ℕ
 lots_with f lots = set lots f.forced (get_or lots f.forced 0 + f.forced_lots.0)
 
 -- a match's lots are to be written: two participants, room for the lines, and sums that 64 bits hold
-pub record LotsWritable (b used : List ℕ) (s : Lists) (m : Entry) (f : Filling) (lots : List ℕ) : Type 0 where
+pub record WriteLotsAsks (b used : List ℕ) (s : Lists) (m : Entry) (f : Filling) (lots : List ℕ) : Type 0 where
   pub book : length b ≡ book_length
   pub deliverer : m.deliverer < most_participants
   pub receiver : m.receiver < most_participants
@@ -119,25 +119,25 @@ pub record UsedBy (entry exit : List ℕ) (d : ℕ) (lots : List ℕ) : Type 0 w
   pub kept : (j : ℕ) → ((i : ℕ) → i < length lots → j ≢ row_cell d i) → get_or exit j 0 ≡ get_or entry j 0
 
 -- lots used, and these with the forced ones listed and booked
-pub record LotsWritten (b used : List ℕ) (s : Lists) (m : Entry) (f : Filling) (lots b' used' : List ℕ) (t : Lists) : Type 0 where
+pub record WriteLotsGives (b used : List ℕ) (s : Lists) (m : Entry) (f : Filling) (lots b' used' : List ℕ) (t : Lists) : Type 0 where
   pub gone : UsedBy used used' m.deliverer lots
   pub listed : Listed s.lines.now t.lines.now s.counts.lines s.counts.matches (lots_with f lots) t.counts.lines
   pub moved : LotsMoved b b' m.deliverer m.receiver (lots_with f lots)
   pub only : LinesOnly s t
 
-pub record Writable (b : List ℕ) (k : ℕ) (m : Entry) (f : Filling) (lots used : List ℕ) (s : Lists) : Type 0 where
+pub record WriteNextAsks (b : List ℕ) (k : ℕ) (m : Entry) (f : Filling) (lots used : List ℕ) (s : Lists) : Type 0 where
   pub basket : k < baskets
   pub match_room : match_size * (s.counts.matches + 1) ≤ length s.matches.now
   pub match_few : s.counts.matches + 1 < 18446744073709551616
-  pub lots_asked : LotsWritable b used s m f lots
+  pub lots_asked : WriteLotsAsks b used s m f lots
 
 -- match m is written: its lots used, listed and booked
-pub record Wrote (b : List ℕ) (k : ℕ) (m : Entry) (f : Filling) (lots used : List ℕ) (s : Lists) (b' used' : List ℕ) (t : Lists) : Type 0 where
+pub record WriteNextGives (b : List ℕ) (k : ℕ) (m : Entry) (f : Filling) (lots used : List ℕ) (s : Lists) (b' used' : List ℕ) (t : Lists) : Type 0 where
   pub gone : UsedBy used used' m.deliverer lots
   pub entry : t.matches.now ≡ over s.matches.now (match_size * s.counts.matches) (entry_cells k m.deliverer m.receiver m.amount.0 f)
   pub matched : t.counts.matches ≡ s.counts.matches + 1
   pub listed : Listed s.lines.now t.lines.now s.counts.lines s.counts.matches (lots_with f lots) t.counts.lines
   pub same : SameLists s t
   pub between : List ℕ
-  pub yen : YenMoved b between k m.deliverer m.receiver f.covered.0
+  pub yen : MoveYenGives b between k m.deliverer m.receiver f.covered.0
   pub moved : LotsMoved between b' m.deliverer m.receiver (lots_with f lots)

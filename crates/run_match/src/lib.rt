@@ -4,7 +4,7 @@
 ghost use Rattle.std.specs.Prelude.{length};
 ghost use Rattle.filling.specs.Match.{FilledAs};
 ghost use Rattle.matching.specs.Plans.{Planned};
-ghost use Rattle.run_match.specs.Filled.{Plannable, PlanRows, plan_in, UsableAsked, UsableLots, Fillable, filled_in, LotsWritable, LotsWritten, Writable, Wrote};
+ghost use Rattle.run_match.specs.Filled.{PlanBasketAsks, PlanRowsAsks, plan_in, UsableLotsAsks, UsableLotsGives, FillNextAsks, filled_in, WriteLotsAsks, WriteLotsGives, WriteNextAsks, WriteNextGives};
 
 use filling::{Filling, Supply};
 use issue_order::Order;
@@ -23,7 +23,7 @@ fn plan_rows(
     due: &mut [u64],
     plan: &mut Plan,
 )
-    requires { PlanRows book.now draw.now basket owed.old due.old }
+    requires { PlanRowsAsks book.now draw.now basket owed.old due.old }
     ensures { Planned (plan_in book.now draw.now basket) plan.new }
 {
     let positions = layout::positions(book, basket, owed.len());
@@ -35,7 +35,7 @@ fn plan_rows(
 
 // The matches of the basket.
 pub fn plan_basket(book: &[u64], basket: usize, draw: &[u64], plan: &mut Plan)
-    requires { Plannable book.now draw.now basket }
+    requires { PlanBasketAsks book.now draw.now basket }
     ensures { Planned (plan_in book.now draw.now basket) plan.new }
 {
     let participants = book[layout::PARTICIPANTS] as usize;
@@ -64,8 +64,8 @@ pub struct Basket<'a> {
 impl Basket<'_> {
     // What a match may use, into a lent row, and what all of it is worth.
     pub fn usable_lots(&self, book: &[u64], m: Match, used: &[u64], usable: &mut [u64]) -> Yen
-        requires { UsableAsked book.now self.now m used.now (length usable.old) }
-        ensures { UsableLots book.now self.now m used.now usable.new result.0 }
+        requires { UsableLotsAsks book.now self.now m used.now (length usable.old) }
+        ensures { UsableLotsGives book.now self.now m used.now usable.new result.0 }
     {
         let issues = book[layout::ISSUES] as usize;
         run_usable::usable_row(
@@ -87,7 +87,7 @@ impl Basket<'_> {
         order: &Order,
         lots: &mut [u64],
     ) -> Filling
-        requires { Fillable book.now self.now.stock m usable.now all.0 order.now.items lots.old }
+        requires { FillNextAsks book.now self.now.stock m usable.now all.0 order.now.items lots.old }
         ensures { FilledAs (filled_in book.now self.now.number m usable.now order.now.items) result lots.new }
     {
         let issues = book[layout::ISSUES] as usize;
@@ -118,8 +118,8 @@ fn write_lots(
     f: Filling,
     lots: &mut [u64],
 )
-    requires { LotsWritable book.old used.old lists.old m f lots.old }
-    ensures { LotsWritten book.old used.old lists.old m f lots.old book.new used.new lists.new }
+    requires { WriteLotsAsks book.old used.old lists.old m f lots.old }
+    ensures { WriteLotsGives book.old used.old lists.old m f lots.old book.new used.new lists.new }
 {
     let forced = f.forced as usize;
     let further = f.forced_lots;
@@ -141,8 +141,8 @@ pub fn write_next(
     used: &mut [u64],
     lists: &mut Lists,
 )
-    requires { Writable book.old basket m f lots.old used.old lists.old }
-    ensures { Wrote book.old basket m f lots.old used.old lists.old book.new used.new lists.new }
+    requires { WriteNextAsks book.old basket m f lots.old used.old lists.old }
+    ensures { WriteNextGives book.old basket m f lots.old used.old lists.old book.new used.new lists.new }
 {
     booking::move_yen(&mut *book, basket, m, f.covered);
     write_lots(book, used, &mut *lists, m, f, lots);

@@ -26,12 +26,12 @@ use Rattle.lists.specs.Parts.{block}
 use Rattle.rule.specs.Layout.{notices_at, lots_row, row_start, most_participants, most_issues}
 use Rattle.filling.specs.Rows.{NamesOnce}
 use Rattle.filling.proofs.OnceLaws.{kept-named}
-use Rattle.ranking.specs.Ranks.{Sortable}
+use Rattle.ranking.specs.Ranks.{SortAsks}
 use Rattle.matching.specs.declared.Match.{Match}
-use Rattle.issue_order.specs.Ordered.{Orderable, Ordered, order_key}
+use Rattle.issue_order.specs.Ordered.{IssueOrderAsks, Ordered, order_key}
 use Rattle.issue_order.proofs.OrderLaws.{ordered-moved}
 use Rattle.layout.specs.InBook.{issues_in}
-use Rattle.run_order.specs.Orders.{Same, notified_in, ranking_in, RankedAt, Orders, RanksAsked, OrderedAt, Loadable, Loaded, OrderAsked, OrderFor}
+use Rattle.run_order.specs.Orders.{Same, notified_in, ranking_in, RankedAt, Orders, RankIssuesAsks, OrderedAt, LoadOrderAsks, LoadOrderGives, OrderForAsks, OrderForGives}
 
 -- ---- a deliverer's issues, ranked
 
@@ -51,12 +51,12 @@ module _ {ranks : List ℕ} {i : ℕ} (w : NumberedTo ranks i) where
   numbered-more e = record { items = e ∙ ap (λ (l : List ℕ). l ++ (i ∷ [])) w.items ∙ sym (up_to-more i) }
 
   module _ (notified : List ℕ) (e : i ≡ length notified) where
-    pub numbered-sortable : {lent : List ℕ} → lent ≡ ranks → Sortable notified lent
+    pub numbered-sortable : {lent : List ℕ} → lent ≡ ranks → SortAsks notified lent
     numbered-sortable f = record { places = subst (Every (λ p. p < length notified)) (sym (f ∙ w.items)) (rw e (every-from (λ p. p < length notified) 0 (length notified) (λ p a b. omega arith))) }
 
 -- ---- the order of a deliverer's issues
 
-module _ {b before : List ℕ} {d : ℕ} {usable : List ℕ} {orders : List (ArrayVec ℕ)} (L : Loadable b before d usable orders) where
+module _ {b before : List ℕ} {d : ℕ} {usable : List ℕ} {orders : List (ArrayVec ℕ)} (L : LoadOrderAsks b before d usable orders) where
   abbrev m : ℕ
   m = issues_in b
 
@@ -76,7 +76,7 @@ module _ {b before : List ℕ} {d : ℕ} {usable : List ℕ} {orders : List (Arr
     deliverer-there : d < length orders
     deliverer-there = omega (arith, L.kept.places, L.deliverer)
 
-    pub rank-asks : (x : ArrayVec ℕ) → RanksAsked notified (get_or orders d x).items
+    pub rank-asks : (x : ArrayVec ℕ) → RankIssuesAsks notified (get_or orders d x).items
     rank-asks x =
         let same : (get_or orders d x).items ≡ ranking_in orders d = ap (λ (o : ArrayVec ℕ). o.items) (get_or_default orders d x (record { items = [] }) deliverer-there) in
         record {
@@ -105,7 +105,7 @@ module _ {b before : List ℕ} {d : ℕ} {usable : List ℕ} {orders : List (Arr
           go p y l (yes x) = subst (λ (q : ℕ). RankedAt b q back) (sym x) own_row
           go p y l (no x) = other_row p x y l
 
-      pub order-asks : {earlier : List ℕ} → length earlier ≡ m → {lent : List ℕ} → lent ≡ own.items → Orderable notified earlier lent (length usable)
+      pub order-asks : {earlier : List ℕ} → length earlier ≡ m → {lent : List ℕ} → lent ≡ own.items → IssueOrderAsks notified earlier lent (length usable)
       order-asks long f = record {
         issues_most = omega (arith, notified-size, L.sized.issues);
         earlier = long ∙ sym notified-size;
@@ -116,7 +116,7 @@ module _ {b before : List ℕ} {d : ℕ} {usable : List ℕ} {orders : List (Arr
 
       pub all-loaded : {earlier : List ℕ} → earlier ≡ block before (row_start d) m → (preferential : Bool) {order : List ℕ}
           → Ordered (length notified) (λ i. order_key preferential (get_or notified i 0) (get_or earlier i 0)) (λ i. get_or usable i 0) order
-          → Loaded b before d preferential usable back order
+          → LoadOrderGives b before d preferential usable back order
       all-loaded before-is preferential o = record {
         ordered = ordered-moved notified-size
             (λ i l.
@@ -131,17 +131,17 @@ module _ {b before : List ℕ} {d : ℕ} {usable : List ℕ} {orders : List (Arr
 pub not-empty : (empty : Bool) (n : ℕ) → empty ≡ eqb n 0 → empty ≡ false → 0 < n
 not-empty empty n e f = omega (arith, eqb-false n 0 (sym e ∙ f))
 
-module _ {b before : List ℕ} {last : Option Match} {m : Match} {usable : List ℕ} {orders : List (ArrayVec ℕ)} {order : List ℕ} (a : OrderAsked b before last m usable orders order) (all : ℕ) where
+module _ {b before : List ℕ} {last : Option Match} {m : Match} {usable : List ℕ} {orders : List (ArrayVec ℕ)} {order : List ℕ} (a : OrderForAsks b before last m usable orders order) (all : ℕ) where
   named-of : {order' : List ℕ} → OrderedAt b before m (λ i. get_or usable i 0) order' → NamesOnce (issues_in b) order'
   named-of o = subst (NamesOnce (issues_in b)) (sym o.names) (kept-named (issues_in b) _ o.live)
 
   -- the order of the match before is that of match m
-  pub still-listed : 0 < length order → Same last m → OrderFor b before m usable all orders order
+  pub still-listed : 0 < length order → Same last m → OrderForGives b before m usable all orders order
   still-listed h s =
       let o : OrderedAt b before m (λ i. get_or usable i 0) order = a.last_is h s in
       record { kept = a.loadable.kept; named = named-of o; fits = inl o; listed = λ z. o }
 
-  pub now-listed : {orders' : List (ArrayVec ℕ)} {order' : List ℕ} → Loaded b before m.deliverer m.preferential usable orders' order' → OrderFor b before m usable all orders' order'
+  pub now-listed : {orders' : List (ArrayVec ℕ)} {order' : List ℕ} → LoadOrderGives b before m.deliverer m.preferential usable orders' order' → OrderForGives b before m usable all orders' order'
   now-listed l = record { kept = l.kept; named = named-of l.ordered; fits = inl l.ordered; listed = λ z. l.ordered }
 
 -- ---- the rows of a run

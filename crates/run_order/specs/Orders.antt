@@ -36,7 +36,7 @@ pub record Orders (b : List ℕ) (orders : List (ArrayVec ℕ)) : Type 0 where
   pub each : (d : ℕ) → d < most_participants → 0 < length (ranking_in orders d) → RankedAt b d orders
 
 -- such a ranking, and the notified lots
-pub record RanksAsked (notified ranks : List ℕ) : Type 0 where
+pub record RankIssuesAsks (notified ranks : List ℕ) : Type 0 where
   pub few : length notified ≤ most_issues
   pub already : 0 < length ranks → ranks ≡ ranked (λ i. get_or notified i 0) (length notified)
 
@@ -48,7 +48,7 @@ key_in b before d preferential i = order_key preferential (notified_in b d i) (g
 abbrev pub OrderedAt : List ℕ → List ℕ → Match → (ℕ → ℕ) → List ℕ → Type 0
 OrderedAt b before m may order = Ordered (issues_in b) (key_in b before m.deliverer m.preferential) may order
 
-pub record Loadable (b before : List ℕ) (d : ℕ) (usable : List ℕ) (orders : List (ArrayVec ℕ)) : Type 0 where
+pub record LoadOrderAsks (b before : List ℕ) (d : ℕ) (usable : List ℕ) (orders : List (ArrayVec ℕ)) : Type 0 where
   pub sized : DaySized b
   pub usable_there : issues_in b ≤ length usable
   pub deliverer : d < most_participants
@@ -56,18 +56,18 @@ pub record Loadable (b before : List ℕ) (d : ℕ) (usable : List ℕ) (orders 
   pub earlier : length before ≡ lots_size
   pub kept : Orders b orders
 
-pub record Loaded (b before : List ℕ) (d : ℕ) (preferential : Bool) (usable : List ℕ) (orders : List (ArrayVec ℕ)) (order : List ℕ) : Type 0 where
+pub record LoadOrderGives (b before : List ℕ) (d : ℕ) (preferential : Bool) (usable : List ℕ) (orders : List (ArrayVec ℕ)) (order : List ℕ) : Type 0 where
   pub ordered : Ordered (issues_in b) (key_in b before d preferential) (λ i. get_or usable i 0) order
   pub kept : Orders b orders
 
 -- match m's order is asked for. If that of the match before lists some issue, it is m's too where the two are of the same deliverer and sort
-pub record OrderAsked (b before : List ℕ) (last : Option Match) (m : Match) (usable : List ℕ) (orders : List (ArrayVec ℕ)) (order : List ℕ) : Type 0 where
+pub record OrderForAsks (b before : List ℕ) (last : Option Match) (m : Match) (usable : List ℕ) (orders : List (ArrayVec ℕ)) (order : List ℕ) : Type 0 where
   pub amount : m.amount.0 ≤ position_limit
-  pub loadable : Loadable b before m.deliverer usable orders
+  pub loadable : LoadOrderAsks b before m.deliverer usable orders
   pub last_is : 0 < length order → Same last m → OrderedAt b before m (λ i. get_or usable i 0) order
 
 -- it is match m's, or filling does not go through it and it lists no issue
-pub record OrderFor (b before : List ℕ) (m : Match) (usable : List ℕ) (all : ℕ) (orders : List (ArrayVec ℕ)) (order : List ℕ) : Type 0 where
+pub record OrderForGives (b before : List ℕ) (m : Match) (usable : List ℕ) (all : ℕ) (orders : List (ArrayVec ℕ)) (order : List ℕ) : Type 0 where
   pub kept : Orders b orders
   pub named : NamesOnce (issues_in b) order
   pub fits : OrderedAt b before m (λ i. get_or usable i 0) order ⊎ Idle (get_or b runs_at 0) all m.amount.0

@@ -3,7 +3,7 @@
 
 ghost use Rattle.std.specs.Prelude.{◌≡◌, true, [], length, get_or};
 ghost use Rattle.lists.specs.Order.{ranked};
-ghost use Rattle.run_order.specs.Orders.{Same, RanksAsked, Loadable, Loaded, OrderAsked, OrderFor};
+ghost use Rattle.run_order.specs.Orders.{Same, RankIssuesAsks, LoadOrderAsks, LoadOrderGives, OrderForAsks, OrderForGives};
 
 use issue_order::Order;
 use matching::Match;
@@ -22,7 +22,7 @@ fn follows(last: Option<Match>, m: Match) -> bool
 // A deliverer's issues, ranked by notified lots when they are first asked for in a run: until then the ranking is empty. Not by
 // `ranking::rank`, which writes over cells that are there.
 fn rank_issues(notified: &[u64], ranks: &mut Order)
-    requires { RanksAsked notified.now ranks.old.items }
+    requires { RankIssuesAsks notified.now ranks.old.items }
     ensures { ranks.new.items ≡ ranked (λ i. get_or notified.now i 0) (length notified.now) }
 {
     if !ranks.is_empty() {
@@ -43,8 +43,8 @@ fn load_order(
     orders: &mut [Order],
     order: &mut Order,
 )
-    requires { Loadable book.now before.now m.deliverer usable.now orders.old }
-    ensures { Loaded book.now before.now m.deliverer m.preferential usable.now orders.new order.new.items }
+    requires { LoadOrderAsks book.now before.now m.deliverer usable.now orders.old }
+    ensures { LoadOrderGives book.now before.now m.deliverer m.preferential usable.now orders.new order.new.items }
 {
     let issues = book[layout::ISSUES] as usize;
     let notified = layout::lots(book, layout::NOTICES, m.deliverer, issues);
@@ -73,8 +73,8 @@ pub fn order_for(
     orders: &mut [Order],
     order: &mut Order,
 )
-    requires { OrderAsked book.now before.now last m usable.now orders.old order.old.items }
-    ensures { OrderFor book.now before.now m usable.now all.0 orders.new order.new.items }
+    requires { OrderForAsks book.now before.now last m usable.now orders.old order.old.items }
+    ensures { OrderForGives book.now before.now m usable.now all.0 orders.new order.new.items }
 {
     if !order.is_empty() && follows(last, m) {
         return;

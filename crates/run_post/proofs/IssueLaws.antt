@@ -3,9 +3,9 @@ use Rattle.rule.specs.Layout.{lots_cell, tally_at}
 use Rattle.std.proofs.Common.{◌≡◌, ℕ, ◌+◌, ◌<◌, ◌≤◌, ◌≢◌, List, length, get_or, set, refl, ap, ◌∙◌, subst, not-suc-le-zero, arith, length-set, get_or-set_other, get_or-set_same, below_more}
 use Rattle.matching.specs.declared.Match.{Match}
 use Rattle.run_post.specs.declared.listing.Lists.{Lists}
-use Rattle.run_post.specs.Booked.{IssueMoved, LotsMovedTo}
-use Rattle.run_post.specs.Listed.{Lined, LineAdded, LinesOnly}
-use Rattle.run_post.specs.Issues.{IssueUsed, UsedTo, IssueWritable, IssueWritten, IssuesWritable, IssuesWritten}
+use Rattle.run_post.specs.Booked.{MoveLotsGives, LotsMovedTo}
+use Rattle.run_post.specs.Listed.{Lined, AddLineGives, LinesOnly}
+use Rattle.run_post.specs.Issues.{IssueUsed, UsedTo, WriteIssueAsks, WriteIssueGives, WriteIssuesAsks, WriteIssuesGives}
 use Rattle.run_post.proofs.BookingLaws.{none-moved, lots-none, lots-more}
 use Rattle.run_post.proofs.ListingLaws.{same-lists, same-then, ListedTo, lined-none, lined-some, listed-none, line-room, listed_more, listed-all}
 
@@ -42,7 +42,7 @@ then-only a b = record { matches = b.matches ∙ a.matches; match_count = b.matc
 -- ---- one issue
 
 pub written_none : {b : List ℕ} (used : List ℕ) (s : Lists) (m : Match) (i : ℕ) {lots : ℕ} → lots ≡ 0 → ((j : ℕ) → get_or b j 0 < 18446744073709551616)
-    → IssueWritten b used s m i lots b used s
+    → WriteIssueGives b used s m i lots b used s
 written_none {b} used s m i e words = record {
   moved = none-moved b m.deliverer m.receiver i e (words (lots_cell tally_at m.deliverer i)) (words (lots_cell tally_at m.receiver i));
   gone = none-used used i e;
@@ -50,9 +50,9 @@ written_none {b} used s m i e words = record {
   only = none-only s;
 }
 
-pub written-some : {b b' used : List ℕ} {s t : Lists} {m : Match} {i lots : ℕ} → lots ≢ 0 → IssueWritable b used s m i lots
-    → IssueMoved b b' m.deliverer m.receiver i lots → LineAdded s t i lots
-    → IssueWritten b used s m i lots b' (set used i (get_or used i 0 + lots)) t
+pub written-some : {b b' used : List ℕ} {s t : Lists} {m : Match} {i lots : ℕ} → lots ≢ 0 → WriteIssueAsks b used s m i lots
+    → MoveLotsGives b b' m.deliverer m.receiver i lots → AddLineGives s t i lots
+    → WriteIssueGives b used s m i lots b' (set used i (get_or used i 0 + lots)) t
 written-some {b} {b'} {used} {s} {t} {m} {i} {lots} z h w a = record {
   moved = w;
   gone = issue-used used i lots h.place;
@@ -78,9 +78,9 @@ module _ (b used : List ℕ) (s : Lists) (m : Match) (lots : List ℕ) where
     only = none-only s;
   }
 
-  module _ (h : IssuesWritable b used s m lots) {b' used' : List ℕ} {t : Lists} {n : ℕ} (w : WrittenTo n b' used' t) where
+  module _ (h : WriteIssuesAsks b used s m lots) {b' used' : List ℕ} {t : Lists} {n : ℕ} (w : WrittenTo n b' used' t) where
     module _ (l : n < length lots) where
-      pub issue-asks : IssueWritable b' used' t m n (get_or lots n 0)
+      pub issue-asks : WriteIssueAsks b' used' t m n (get_or lots n 0)
       issue-asks = record {
         bookable = record { cells = w.moved.size ∙ h.cells; deliverer = h.deliverer; receiver = h.receiver; apart = h.apart; issue = omega (arith, h.few) };
         place = omega (arith, w.gone.size, h.places);
@@ -88,7 +88,7 @@ module _ (b used : List ℕ) (s : Lists) (m : Match) (lots : List ℕ) where
         room = line-room s.lines.now s.counts.lines s.counts.matches lots h.room w.listed l;
       }
 
-      pub issues-more : {b'' used'' : List ℕ} {u : Lists} → IssueWritten b' used' t m n (get_or lots n 0) b'' used'' u → WrittenTo (n + 1) b'' used'' u
+      pub issues-more : {b'' used'' : List ℕ} {u : Lists} → WriteIssueGives b' used' t m n (get_or lots n 0) b'' used'' u → WrittenTo (n + 1) b'' used'' u
       issues-more {b''} {used''} {u} v = record {
         moved = lots-more lots h.apart (omega (arith, h.few)) w.moved v.moved;
         gone = used-more lots w.gone v.gone;
@@ -97,7 +97,7 @@ module _ (b used : List ℕ) (s : Lists) (m : Match) (lots : List ℕ) where
         only = then-only w.only v.only;
       }
 
-    pub issues-all : length lots ≤ n → IssuesWritten b used s m lots b' used' t
+    pub issues-all : length lots ≤ n → WriteIssuesGives b used s m lots b' used' t
     issues-all l =
         let e : n ≡ length lots = omega (arith, w.listed.here) in
         record {

@@ -10,7 +10,7 @@ use Rattle.lists.proofs.PartLaws.{length_over}
 use Rattle.lists.proofs.AppendLaws.{map-append, keep_append, joined-append, joined_length, up_to-more, over_none, over-more}
 use Rattle.rule.specs.Entries.{line_size}
 use Rattle.run_post.specs.declared.listing.Lists.{Lists}
-use Rattle.run_post.specs.Listed.{line_for, lines_to, lines_for, LineRoom, SameLists, Lined, LinesRoom, Listed}
+use Rattle.run_post.specs.Listed.{line_for, lines_to, lines_for, AddLineAsks, SameLists, Lined, LinesRoom, Listed}
 
 -- ---- the slices that were lent
 
@@ -111,7 +111,7 @@ module _ (entry : List ℕ) (first number : ℕ) (lots : List ℕ) where
     room : 0 < get_or lots i 0 → line_size * (line + 1) ≤ length lines
     room some = omega (arith, listed-room _ (one_more some), w.size, w.counted)
 
-    pub line-room : 0 < get_or lots i 0 → LineRoom lines line
+    pub line-room : 0 < get_or lots i 0 → AddLineAsks lines line
     line-room some = record { places = room some }
 
     -- a line more, or none

@@ -32,12 +32,12 @@ unfoldable pub lines_for : ℕ → List ℕ → List (List ℕ)
 lines_for number lots = lines_to number lots (length lots)
 
 -- there is room for match `number`
-pub record MatchRoom (matches : List ℕ) (number : ℕ) : Type 0 where
+pub record AddMatchAsks (matches : List ℕ) (number : ℕ) : Type 0 where
   pub places : match_size * (number + 1) ≤ length matches
   pub small : number < 18446744073709551616
 
 -- for line `line`
-pub record LineRoom (lines : List ℕ) (line : ℕ) : Type 0 where
+pub record AddLineAsks (lines : List ℕ) (line : ℕ) : Type 0 where
   pub places : line_size * (line + 1) ≤ length lines
 
 -- the slices that were lent are the same ones
@@ -48,7 +48,7 @@ pub record SameLists (s t : Lists) : Type 0 where
   pub line_places : length t.lines.now ≡ length s.lines.now
 
 -- a match was written
-pub record MatchAdded (s t : Lists) (k : ℕ) (m : Match) (f : Filling) : Type 0 where
+pub record AddMatchGives (s t : Lists) (k : ℕ) (m : Match) (f : Filling) : Type 0 where
   pub entry : t.matches.now ≡ over s.matches.now (match_size * s.counts.matches) (entry_cells k m.deliverer m.receiver m.amount.0 f)
   pub matched : t.counts.matches ≡ s.counts.matches + 1
   pub lines : t.lines.now ≡ s.lines.now
@@ -62,7 +62,7 @@ pub record LinesOnly (s t : Lists) : Type 0 where
   pub same : SameLists s t
 
 -- a line of the next match was written
-pub record LineAdded (s t : Lists) (issue lots : ℕ) : Type 0 where
+pub record AddLineGives (s t : Lists) (issue lots : ℕ) : Type 0 where
   pub cells : t.lines.now ≡ over s.lines.now (line_size * s.counts.lines) (line_row (record { match = s.counts.matches; issue = issue; lots = lots }))
   pub counted : t.counts.lines ≡ s.counts.lines + 1
   pub only : LinesOnly s t

@@ -1,6 +1,6 @@
 // The issues of a filled match: the lots of each are booked, used and listed. One loop does all three, since a loop for each took
 // longer.
-ghost use Rattle.run_post.specs.Issues.{IssueWritable, IssueWritten, IssuesWritable, IssuesWritten};
+ghost use Rattle.run_post.specs.Issues.{WriteIssueAsks, WriteIssueGives, WriteIssuesAsks, WriteIssuesGives};
 
 use crate::booking;
 use crate::listing::Lists;
@@ -17,8 +17,8 @@ fn write_issue(
     issue: usize,
     lots: Lots,
 )
-    requires { IssueWritable book.old used.old lists.old m issue lots.0 }
-    ensures { IssueWritten book.old used.old lists.old m issue lots.0 book.new used.new lists.new }
+    requires { WriteIssueAsks book.old used.old lists.old m issue lots.0 }
+    ensures { WriteIssueGives book.old used.old lists.old m issue lots.0 book.new used.new lists.new }
 {
     if lots == Lots(0) {
         return;
@@ -30,8 +30,8 @@ fn write_issue(
 
 // All issues' lots; "issues rise within a match". `used` is the deliverer's row of lots used.
 pub fn write_issues(book: &mut [u64], used: &mut [u64], lists: &mut Lists, m: Match, lots: &[u64])
-    requires { IssuesWritable book.old used.old lists.old m lots.now }
-    ensures { IssuesWritten book.old used.old lists.old m lots.now book.new used.new lists.new }
+    requires { WriteIssuesAsks book.old used.old lists.old m lots.now }
+    ensures { WriteIssuesGives book.old used.old lists.old m lots.now book.new used.new lists.new }
 {
     for (issue, taken) in lots.iter().enumerate() {
         write_issue(&mut *book, &mut *used, &mut *lists, m, issue, Lots(*taken));

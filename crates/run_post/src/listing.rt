@@ -1,6 +1,6 @@
 // The two lists of a run.
 ghost use Rattle.std.specs.Prelude.{◌≡◌, ◌*◌, [], ◌∷◌};
-ghost use Rattle.run_post.specs.Listed.{MatchRoom, LineRoom, MatchAdded, LineAdded};
+ghost use Rattle.run_post.specs.Listed.{AddMatchAsks, AddLineAsks, AddMatchGives, AddLineGives};
 
 use filling::Filling;
 use matching::Match;
@@ -18,8 +18,8 @@ pub struct Lists<'a> {
 impl Lists<'_> {
     // "A match is basket, deliverer, receiver, matched yen, covered yen, forced issue, forced lots". Its lines stand before it is added.
     pub fn add_match(&mut self, basket: u64, m: Match, f: Filling)
-        requires { MatchRoom self.old.matches.now self.old.counts.matches }
-        ensures { MatchAdded self.old self.new basket m f }
+        requires { AddMatchAsks self.old.matches.now self.old.counts.matches }
+        ensures { AddMatchGives self.old self.new basket m f }
     {
         let at = layout::MATCH * self.counts.matches;
         let end = at + layout::MATCH;
@@ -37,8 +37,8 @@ impl Lists<'_> {
 
     // "A line is match number .., issue, lots": of the match that is added next.
     pub fn add_line(&mut self, issue: u64, lots: Lots)
-        requires { LineRoom self.old.lines.now self.old.counts.lines }
-        ensures { LineAdded self.old self.new issue lots.0 }
+        requires { AddLineAsks self.old.lines.now self.old.counts.lines }
+        ensures { AddLineGives self.old self.new issue lots.0 }
     {
         let at = layout::LINE * self.counts.lines;
         let end = at + layout::LINE;

@@ -28,7 +28,7 @@ use Rattle.value.specs.Range.{most_lots, most_sum}
 use Rattle.value.specs.Quote.{QuoteOf}
 use Rattle.value.specs.declared.Quote.{Quote}
 use Rattle.value.proofs.SumLaws.{Summed, sum-none, sum_kept, sum_most, sum_more, sum-all}
-use Rattle.run_usable.specs.Stock.{terms_in, marks_in, allocable_in, inside_of, usable_of, may_use, Usable, Usables}
+use Rattle.run_usable.specs.Stock.{terms_in, marks_in, allocable_in, inside_of, usable_of, may_use, UsableRowAsks, UsableRowGives}
 
 module _ (b : List ℕ) (n i : ℕ) (l : i < n) {issues : List (List ℕ)} (there : issues ≡ grid b terms_at term_size n term_size) where
   its-terms : get_or issues i [] ≡ block b (issue_terms i) term_size
@@ -121,7 +121,7 @@ pub record UsableTo (inside : List Bool) (allocable used : List ℕ) (quotes : L
 pub usable-none : (inside : List Bool) (allocable used : List ℕ) (quotes : List Quote) (row : List ℕ) → UsableTo inside allocable used quotes row row 0 0
 usable-none inside allocable used quotes row = record { written = changed-none _ row; summed = sum-none }
 
-module _ {inside : List Bool} {allocable used : List ℕ} {quotes : List Quote} {row₀ : List ℕ} (h : Usable inside allocable used quotes (length row₀)) {row : List ℕ} {all i : ℕ}
+module _ {inside : List Bool} {allocable used : List ℕ} {quotes : List Quote} {row₀ : List ℕ} (h : UsableRowAsks inside allocable used quotes (length row₀)) {row : List ℕ} {all i : ℕ}
     (w : UsableTo inside allocable used quotes row₀ row all i) where
   module _ (l : i < length row₀) {v : ℕ} (e : v ≡ may_use inside allocable used i) where
     abbrev row' : List ℕ
@@ -147,7 +147,7 @@ module _ {inside : List Bool} {allocable used : List ℕ} {quotes : List Quote} 
       summed = sum_more l (omega (arith, length-set row i v, inside-row)) read (omega (arith, here, few)) (λ t q. g t q ∙ ap (λ (x : ℕ). all + value t x) (sym here)) (sum_kept v w.summed);
     }
 
-  pub usable-all : length row₀ ≤ i → Usables inside allocable used quotes (length row₀) row all
+  pub usable-all : length row₀ ≤ i → UsableRowGives inside allocable used quotes (length row₀) row all
   usable-all l = record {
     row_is = ext_get_or 0 row (table (length row₀) (may_use inside allocable used)) (w.written.size ∙ sym (length-table (length row₀) _))
         (λ j k. w.written.cells j (omega (arith, w.written.size)) ∙ sym (get_or-table (length row₀) (may_use inside allocable used) j 0 (omega (arith, w.written.size))));

@@ -34,35 +34,35 @@ unfoldable pub usable_of : Bool → ℕ → ℕ → ℕ
 usable_of inside allocable used = pick inside (allocable - used) 0
 
 -- a book, and a row for so many issues
-pub record Markable (b : List ℕ) (issues : ℕ) : Type 0 where
+pub record MarkIssuesAsks (b : List ℕ) (issues : ℕ) : Type 0 where
   pub cells : length b ≡ book_length
   pub few : issues ≤ most_issues
 
 -- a book, and a participant's row
-pub record Row (b : List ℕ) (p : ℕ) (row : List ℕ) : Type 0 where
+pub record AllocableRowAsks (b : List ℕ) (p : ℕ) (row : List ℕ) : Type 0 where
   pub cells : length b ≡ book_length
   pub participant : p < most_participants
   pub few : length row ≤ most_issues
 
 -- a book with its sizes, and a row for each of the most participants
-pub record Rows (b cells : List ℕ) : Type 0 where
+pub record AllocableRowsAsks (b cells : List ℕ) : Type 0 where
   pub book : length b ≡ book_length
   pub participants : get_or b participants_at 0 ≤ most_participants
   pub issues : get_or b issues_at 0 ≤ most_issues
   pub places : length cells ≡ lots_size
 
 -- every allocable quantity of the day stands in its cell
-pub record Allocable (b cells : List ℕ) : Type 0 where
+pub record AllocableRowsGives (b cells : List ℕ) : Type 0 where
   pub places : length cells ≡ lots_size
   pub each : (p i : ℕ) → p < get_or b participants_at 0 → i < get_or b issues_at 0 → get_or cells (row_cell p i) 0 ≡ allocable_in b p i
 
 -- of an issue of the basket no more was used than is allocable
-pub record Enough (inside : Bool) (allocable used : ℕ) : Type 0 where
+pub record UsableAsks (inside : Bool) (allocable used : ℕ) : Type 0 where
   pub enough : inside ≡ true → used ≤ allocable
 
 -- rows of so many issues: which are of the basket, allocable quantities and used lots, no more of the basket's used than allocable, and
 -- their quotes
-pub record Usable (inside : List Bool) (allocable used : List ℕ) (quotes : List Quote) (issues : ℕ) : Type 0 where
+pub record UsableRowAsks (inside : List Bool) (allocable used : List ℕ) (quotes : List Quote) (issues : ℕ) : Type 0 where
   pub few : issues ≤ most_issues
   pub marked : issues ≤ length inside
   pub stock : issues ≤ length allocable
@@ -76,6 +76,6 @@ abbrev pub may_use : List Bool → List ℕ → List ℕ → ℕ → ℕ
 may_use inside allocable used i = usable_of (get_or inside i false) (get_or allocable i 0) (get_or used i 0)
 
 -- what may be used of each issue, and what all of it is worth
-pub record Usables (inside : List Bool) (allocable used : List ℕ) (quotes : List Quote) (issues : ℕ) (row : List ℕ) (all : ℕ) : Type 0 where
+pub record UsableRowGives (inside : List Bool) (allocable used : List ℕ) (quotes : List Quote) (issues : ℕ) (row : List ℕ) (all : ℕ) : Type 0 where
   pub row_is : row ≡ table issues (may_use inside allocable used)
   pub worth_is : (ts : List Terms) → length ts ≡ issues → Quotes ts quotes → all ≡ worth ts row

@@ -4,7 +4,7 @@
 ghost use Rattle.std.specs.Prelude.{◌≡◌, length};
 ghost use Rattle.lists.specs.Tables.{table};
 ghost use Rattle.lists.specs.Rows.{Becomes};
-ghost use Rattle.run_usable.specs.Stock.{allocable_in, inside_of, usable_of, Markable, Row, Rows, Allocable, Enough, Usable, Usables};
+ghost use Rattle.run_usable.specs.Stock.{allocable_in, inside_of, usable_of, MarkIssuesAsks, AllocableRowAsks, AllocableRowsAsks, AllocableRowsGives, UsableAsks, UsableRowAsks, UsableRowGives};
 
 use baskets::Marks;
 use quantities::{Lots, Yen};
@@ -19,7 +19,7 @@ pub struct Stock<'a> {
 
 // A participant's allocable quantities. By number: a zip of the row with all four would be tuples in tuples.
 fn allocable_row(book: &[u64], participant: usize, row: &mut [u64])
-    requires { Row book.now participant row.old }
+    requires { AllocableRowAsks book.now participant row.old }
     ensures { Becomes (λ i c. c ≡ allocable_in book.now participant i) row.old row.new }
 {
     let runs = book[layout::RUNS];
@@ -39,8 +39,8 @@ fn allocable_row(book: &[u64], participant: usize, row: &mut [u64])
 
 // Every participant's, in rows as far apart as the book's.
 pub fn allocable_rows(book: &[u64], cells: &mut [u64])
-    requires { Rows book.now cells.old }
-    ensures { Allocable book.now cells.new }
+    requires { AllocableRowsAsks book.now cells.old }
+    ensures { AllocableRowsGives book.now cells.new }
 {
     let participants = book[layout::PARTICIPANTS] as usize;
     let issues = book[layout::ISSUES] as usize;
@@ -52,7 +52,7 @@ pub fn allocable_rows(book: &[u64], cells: &mut [u64])
 
 // Whether each issue is of the basket. By number: of a row that a zip wrote the prover knows the length and no cell.
 pub fn mark_issues(book: &[u64], basket: u64, row: &mut [bool])
-    requires { Markable book.now (length row.old) }
+    requires { MarkIssuesAsks book.now (length row.old) }
     ensures { row.new ≡ table (length row.old) (inside_of book.now basket) }
 {
     let kinds = baskets::kinds_of(basket);
@@ -66,7 +66,7 @@ pub fn mark_issues(book: &[u64], basket: u64, row: &mut [bool])
 // "Lots used earlier in the same run are gone .. Outside the basket nothing may be used".
 #[tactic(auto, unfolding(crate::specs::Stock::usable_of))]
 fn usable(inside: bool, allocable: Lots, used: Lots) -> Lots
-    requires { Enough inside allocable.0 used.0 }
+    requires { UsableAsks inside allocable.0 used.0 }
     ensures { result.0 ≡ usable_of inside allocable.0 used.0 }
 {
     if inside { allocable - used } else { Lots(0) }
@@ -81,8 +81,8 @@ pub fn usable_row(
     quotes: &[Quote],
     row: &mut [u64],
 ) -> Yen
-    requires { Usable inside.now allocable.now used.now quotes.now (length row.old) }
-    ensures { Usables inside.now allocable.now used.now quotes.now (length row.old) row.new result.0 }
+    requires { UsableRowAsks inside.now allocable.now used.now quotes.now (length row.old) }
+    ensures { UsableRowGives inside.now allocable.now used.now quotes.now (length row.old) row.new result.0 }
 {
     let mut all = Yen(0);
     for (i, cell) in row.iter_mut().enumerate() {

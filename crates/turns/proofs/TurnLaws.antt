@@ -11,8 +11,8 @@ use Rattle.value.specs.Range.{most_lots, most_yen}
 use Rattle.value.specs.Quote.{QuoteOf}
 use Rattle.value.specs.declared.Quote.{Quote}
 use Rattle.value.proofs.QuoteLaws.{some-price, worth-least, one_value, of-all}
-use Rattle.turns.specs.Turns.{besides, Part, Addable, NotReached, Raising, Rounding, Turned, Valued, lots_up_to, whole_units}
-use Rattle.turns.specs.Passes.{bound_of, Turnable}
+use Rattle.turns.specs.Turns.{besides, Part, WithLotsAsks, FurtherLotsAsks, TakeUpToAsks, TakeUnitsAsks, Turned, WithLotsGives, lots_up_to, whole_units}
+use Rattle.turns.specs.Passes.{bound_of, NextAsks}
 use Rattle.turns.specs.declared.Turn.{Turn}
 use Rattle.turns.specs.declared.Pass.{Pass}
 use Rattle.turns.specs.declared.Pass.TheVariants.{Units, Remainders}
@@ -44,12 +44,12 @@ module _ {q : Quote} {had reached : ℕ} (s : Part q had reached) where
 -- ---- all up to a bound, or the fewest that reach the amount
 
 -- the match has that much
-pub up_none : {had bound reached amount : ℕ} → Raising had bound reached amount → (t : Terms) → bound ≤ had → lots_up_to t bound had reached amount ≡ had
+pub up_none : {had bound reached amount : ℕ} → TakeUpToAsks had bound reached amount → (t : Terms) → bound ≤ had → lots_up_to t bound had reached amount ≡ had
 unfolding lots_up_to
 up_none p t h = omega (arith, p.bounded)
 
 -- what is short, beside the others
-module _ {q : Quote} {had reached amount : ℕ} (s : Part q had reached) (p : NotReached reached amount) {rest : ℕ} (o : Ensured q (λ t. besides t had reached) rest) where
+module _ {q : Quote} {had reached amount : ℕ} (s : Part q had reached) (p : FurtherLotsAsks reached amount) {rest : ℕ} (o : Ensured q (λ t. besides t had reached) rest) where
   rest-most : rest ≤ reached
   rest-most = of-all q (λ t r. omega (arith, o t r))
 
@@ -74,12 +74,12 @@ module _ {q : Quote} {had reached amount : ℕ} (s : Part q had reached) (p : No
       → Ensured q (λ t. fewest t (amount - besides t had reached) - had) m
   further s e d t r = let f = needed s e t r in d ∙ rw (← o t r) (ap (λ (n : ℕ). n - had) f)
 
-  module _ {bound : ℕ} (b : Raising had bound reached amount) where
-    pub bound-addable : Addable rest bound
+  module _ {bound : ℕ} (b : TakeUpToAsks had bound reached amount) where
+    pub bound-addable : WithLotsAsks rest bound
     bound-addable = record { lots_most = b.bound_most; others_most = omega (arith, rest_below, p.amount_most) }
 
     -- all of it stays below the amount
-    pub up-all : {t : Terms} {x : Turn} → QuoteOf t q → Valued q rest bound x → x.reached.0 < amount → Turned t (besides t had reached) (lots_up_to t bound had reached amount) x
+    pub up-all : {t : Terms} {x : Turn} → QuoteOf t q → WithLotsGives q rest bound x → x.reached.0 < amount → Turned t (besides t had reached) (lots_up_to t bound had reached amount) x
     unfolding lots_up_to
     up-all {t} {x} r a low = go (dec_le (fewest t (amount - besides t had reached)) bound)
       where
@@ -90,17 +90,17 @@ module _ {q : Quote} {had reached amount : ℕ} (s : Part q had reached) (p : No
             rw (e, ← o t r) (a t r)
 
     -- not all of it is needed
-    module _ {x : Turn} (v : Valued q rest bound x) (enough : amount ≤ x.reached.0) {need n : ℕ} (d : need ≡ amount - rest) (e : Ensured q (λ t. fewest t need) n) where
+    module _ {x : Turn} (v : WithLotsGives q rest bound x) (enough : amount ≤ x.reached.0) {need n : ℕ} (d : need ≡ amount - rest) (e : Ensured q (λ t. fewest t need) n) where
       few : {t : Terms} → QuoteOf t q → fewest t (amount - rest) ≤ bound
       few {t} r = fewest-least t (some-price r) (amount - rest) (omega (arith, (v t r).worth))
 
-      pub few-addable : Addable rest n
+      pub few-addable : WithLotsAsks rest n
       few-addable = record {
         lots_most = of-all q (λ t r. omega (arith, needed d e t r, few r, b.bound_most));
         others_most = omega (arith, rest_below, p.amount_most);
       }
 
-      pub up-few : {t : Terms} {x : Turn} → QuoteOf t q → Valued q rest n x → Turned t (besides t had reached) (lots_up_to t bound had reached amount) x
+      pub up-few : {t : Terms} {x : Turn} → QuoteOf t q → WithLotsGives q rest n x → Turned t (besides t had reached) (lots_up_to t bound had reached amount) x
       unfolding lots_up_to
       up-few {t} r a =
           let k : min bound (max had (fewest t (amount - rest))) ≡ n = omega (arith, needed d e t r, few r, more r) in
@@ -109,16 +109,16 @@ module _ {q : Quote} {had reached amount : ℕ} (s : Part q had reached) (p : No
 -- ---- whole units within the target
 
 -- no whole unit may be used
-pub units-none : {had usable reached goal : ℕ} → Rounding had usable reached goal → (t : Terms) → usable < unit → whole_units t usable had reached goal ≡ had
+pub units-none : {had usable reached goal : ℕ} → TakeUnitsAsks had usable reached goal → (t : Terms) → usable < unit → whole_units t usable had reached goal ≡ had
 unfolding whole_units
 units-none {usable = usable} p t h =
     let e : usable / unit ≡ 0 = omega arith in
     rw e (omega (arith, p.none))
 
-units-addable : {had usable reached goal n : ℕ} → Rounding had usable reached goal → n ≤ usable → Addable reached n
+units-addable : {had usable reached goal n : ℕ} → TakeUnitsAsks had usable reached goal → n ≤ usable → WithLotsAsks reached n
 units-addable p h = record { lots_most = omega (arith, h, p.usable_most); others_most = omega (arith, p.kept, p.goal_most) }
 
-module _ {q : Quote} {had usable reached goal : ℕ} (p : Rounding had usable reached goal) where
+module _ {q : Quote} {had usable reached goal : ℕ} (p : TakeUnitsAsks had usable reached goal) where
   -- the match has no lot of the issue: all of it are others
   abbrev o : Ensured q (λ t. besides t had reached) reached
   o = alone q reached p.none
@@ -135,7 +135,7 @@ module _ {q : Quote} {had usable reached goal : ℕ} (p : Rounding had usable re
         go (yes k) = absurd (omega (arith, most-keeps t (some-price r) (goal - reached) k, p.kept))
         go (no k) = omega arith
 
-    pub units-all : {n : ℕ} {x : Turn} → n ≡ usable / unit * unit → Valued q reached n x → x.reached.0 ≤ goal
+    pub units-all : {n : ℕ} {x : Turn} → n ≡ usable / unit * unit → WithLotsGives q reached n x → x.reached.0 ≤ goal
         → Turned t (besides t had reached) (whole_units t usable had reached goal) x
     unfolding whole_units
     units-all {n} e a low =
@@ -150,7 +150,7 @@ module _ {q : Quote} {had usable reached goal : ℕ} (p : Rounding had usable re
         rw (← o t r, d) (sym p.none)
 
   -- not all whole units stay within it
-  module _ {whole : ℕ} {x : Turn} (w : whole ≡ usable / unit * unit) (v : Valued q reached whole x) (some : goal < x.reached.0)
+  module _ {whole : ℕ} {x : Turn} (w : whole ≡ usable / unit * unit) (v : WithLotsGives q reached whole x) (some : goal < x.reached.0)
       {room n : ℕ} (s : room ≡ goal - reached) (e : Ensured q (λ t. most t room) n) where
     within-room : Ensured q (λ t. most t (goal - reached)) n
     within-room t r = rw s at (e t r)
@@ -162,10 +162,10 @@ module _ {q : Quote} {had usable reached goal : ℕ} (p : Rounding had usable re
     most_few = of-all q (λ t r. omega (arith, less r))
 
     module _ {m : ℕ} (d : m ≡ n / unit * unit) where
-      pub most-addable : Addable reached m
+      pub most-addable : WithLotsAsks reached m
       most-addable = units-addable p (omega (arith, most_few))
 
-      pub units-most : {t : Terms} {x : Turn} → QuoteOf t q → Valued q reached m x → Turned t (besides t had reached) (whole_units t usable had reached goal) x
+      pub units-most : {t : Terms} {x : Turn} → QuoteOf t q → WithLotsGives q reached m x → Turned t (besides t had reached) (whole_units t usable had reached goal) x
       unfolding whole_units
       units-most {t} r a =
           let k : min (usable / unit) (most t (goal - reached) / unit) * unit ≡ m = omega (arith, within-room t r, less r) in
@@ -174,7 +174,7 @@ module _ {q : Quote} {had usable reached goal : ℕ} (p : Rounding had usable re
 -- ---- a pass
 
 module _ {had usable reached amount : ℕ} where
-  pub rounding : Turnable Units had usable reached amount → Rounding had usable reached (target amount)
+  pub rounding : NextAsks Units had usable reached amount → TakeUnitsAsks had usable reached (target amount)
   unfolding target
   rounding p = record {
     none = p.fresh.0;
@@ -183,12 +183,12 @@ module _ {had usable reached amount : ℕ} where
     goal_most = omega (arith, p.short.amount_most);
   }
 
-  raising : {pass : Pass} {bound : ℕ} → Turnable pass had usable reached amount → bound ≡ bound_of pass usable had → bound ≤ most_lots → Raising had bound reached amount
+  raising : {pass : Pass} {bound : ℕ} → NextAsks pass had usable reached amount → bound ≡ bound_of pass usable had → bound ≤ most_lots → TakeUpToAsks had bound reached amount
   raising p e h = record { short = p.short; bounded = rw e p.bounded; bound_most = h }
 
   -- ---- the second pass
 
-  module _ (p : Turnable Remainders had usable reached amount) where
+  module _ (p : NextAsks Remainders had usable reached amount) where
     -- beside the whole units of what may be used there is its remainder
     bound-remainder : {whole : ℕ} → whole ≡ usable / unit * unit → had + (usable - whole) ≡ bound_of Remainders usable had
     bound-remainder e = omega (arith, p.fresh)

@@ -2,7 +2,7 @@
 use Rattle.std.specs.Prelude.{◌≡◌, ℕ, ◌+◌, ◌*◌, ◌/◌, ◌%◌, ◌≤◌}
 use Rattle.rule.specs.Value.{Terms}
 use Rattle.rule.specs.Filling.{unit, target}
-use Rattle.turns.specs.Turns.{lots_up_to, whole_units, NotReached}
+use Rattle.turns.specs.Turns.{lots_up_to, whole_units, FurtherLotsAsks}
 use Rattle.turns.specs.declared.Pass.{Pass}
 use Rattle.turns.specs.declared.Pass.TheVariants.{Units, Remainders, Rest}
 use Rattle.rule.specs.Sound.{notice_limit}
@@ -27,8 +27,8 @@ Fresh Remainders had reached amount = had / unit * unit ≡ had
 Fresh Rest had reached amount = Unit {0}
 
 -- what a turn asks
-pub record Turnable (pass : Pass) (had usable reached amount : ℕ) : Type 0 where
-  pub short : NotReached reached amount
+pub record NextAsks (pass : Pass) (had usable reached amount : ℕ) : Type 0 where
+  pub short : FurtherLotsAsks reached amount
   pub bounded : had ≤ bound_of pass usable had
   pub within : had ≤ usable
   pub usable_most : usable ≤ notice_limit

@@ -32,23 +32,23 @@ pub record Part (q : Quote) (had reached : ℕ) : Type 0 where
   pub reached_most : reached ≤ most_yen
 
 -- lots to be valued, and what they are added to
-pub record Addable (others lots : ℕ) : Type 0 where
+pub record WithLotsAsks (others lots : ℕ) : Type 0 where
   pub lots_most : lots ≤ most_lots
   pub others_most : others ≤ most_yen
 
 -- the match does not reach its amount
-pub record NotReached (reached amount : ℕ) : Type 0 where
+pub record FurtherLotsAsks (reached amount : ℕ) : Type 0 where
   pub below : reached < amount
   pub amount_most : amount ≤ most_yen
 
 -- and it may have up to a bound of the issue
-pub record Raising (had bound reached amount : ℕ) : Type 0 where
-  pub short : NotReached reached amount
+pub record TakeUpToAsks (had bound reached amount : ℕ) : Type 0 where
+  pub short : FurtherLotsAsks reached amount
   pub bounded : had ≤ bound
   pub bound_most : bound ≤ most_lots
 
 -- it has none of the issue, and keeps to its target
-pub record Rounding (had usable reached goal : ℕ) : Type 0 where
+pub record TakeUnitsAsks (had usable reached goal : ℕ) : Type 0 where
   pub none : had ≡ 0
   pub usable_most : usable ≤ notice_limit
   pub kept : reached ≤ goal
@@ -60,8 +60,8 @@ pub record Turned (t : Terms) (others n : ℕ) (r : Turn) : Type 0 where
   pub worth : r.reached.0 ≡ others + value t n
 
 -- n lots were taken, whatever the terms of the quote
-abbrev pub Valued : Quote → ℕ → ℕ → Turn → Type 0
-Valued q others n r = (t : Terms) → QuoteOf t q → Turned t others n r
+abbrev pub WithLotsGives : Quote → ℕ → ℕ → Turn → Type 0
+WithLotsGives q others n r = (t : Terms) → QuoteOf t q → Turned t others n r
 
 -- the issue had so many lots, and has n: none were taken only where it had n
 abbrev pub Took : Terms → ℕ → ℕ → ℕ → Option Turn → Type 0

@@ -5,8 +5,8 @@ ghost use Rattle.std.specs.Prelude.{◌≡◌, ◌-◌, ◌*◌, ◌/◌};
 ghost use Rattle.rule.specs.Value.{Terms, fewest as fewest_of};
 ghost use Rattle.value.specs.Quote.{QuoteOf};
 ghost use Rattle.rule.specs.Filling.{unit};
-ghost use Rattle.turns.specs.Turns.{besides, Few, Part, Addable, lots_up_to, whole_units, Raising, Rounding, Valued, Took, NotReached};
-ghost use Rattle.turns.specs.Passes.{next_of, Turnable};
+ghost use Rattle.turns.specs.Turns.{besides, Few, Part, WithLotsAsks, lots_up_to, whole_units, TakeUpToAsks, TakeUnitsAsks, WithLotsGives, Took, FurtherLotsAsks};
+ghost use Rattle.turns.specs.Passes.{next_of, NextAsks};
 
 use quantities::{Lots, Yen};
 use value::Quote;
@@ -43,8 +43,8 @@ fn whole_units(lots: Lots) -> Lots
 
 // So many lots of the issue, beside others that are worth so much.
 fn with_lots(quote: Quote, others: Yen, lots: Lots) -> Turn
-    requires { Addable others.0 lots.0 }
-    ensures { Valued quote others.0 lots.0 result }
+    requires { WithLotsAsks others.0 lots.0 }
+    ensures { WithLotsGives quote others.0 lots.0 result }
 {
     Turn {
         lots,
@@ -75,7 +75,7 @@ impl Standing {
     // "take all, or the fewest lots that reach the amount": the match may have up to a bound of the issue. None where it has that.
     // Where all of them stay below the amount nothing is divided.
     fn take_up_to(self, bound: Lots, amount: Yen) -> Option<Turn>
-        requires { Raising self.had.0 bound.0 self.reached.0 amount.0 }
+        requires { TakeUpToAsks self.had.0 bound.0 self.reached.0 amount.0 }
         ensures { (t : Terms) → QuoteOf t self.quote → Took t self.had.0 self.reached.0 (lots_up_to t bound.0 self.had.0 self.reached.0 amount.0) result }
     {
         if bound <= self.had {
@@ -93,7 +93,7 @@ impl Standing {
     // "the most units of 100,000 lots that keep the match's value at or below the target", in a match that has no lot of the issue.
     // Nothing is divided by what a lot is worth where a unit is worth more than is left, or all whole units stay within it.
     fn take_units(self, usable: Lots, target: Yen) -> Option<Turn>
-        requires { Rounding self.had.0 usable.0 self.reached.0 target.0 }
+        requires { TakeUnitsAsks self.had.0 usable.0 self.reached.0 target.0 }
         ensures { (t : Terms) → QuoteOf t self.quote → Took t self.had.0 self.reached.0 (whole_units t usable.0 self.had.0 self.reached.0 target.0) result }
     {
         if usable < UNIT {
@@ -115,7 +115,7 @@ impl Standing {
     // "each issue's remainder under a unit, as counted when the match began": the first pass took whole units. Where no further unit is
     // left, the remainder is all that is left.
     fn take_remainder(self, usable: Lots, amount: Yen) -> Option<Turn>
-        requires { Turnable Pass.Remainders self.had.0 usable.0 self.reached.0 amount.0 }
+        requires { NextAsks Pass.Remainders self.had.0 usable.0 self.reached.0 amount.0 }
         ensures { (t : Terms) → QuoteOf t self.quote → Took t self.had.0 self.reached.0 (next_of Pass.Remainders t usable.0 self.had.0 self.reached.0 amount.0) result }
     {
         let left = usable - self.had;
@@ -132,7 +132,7 @@ impl Standing {
 
     // The issue's turn in a pass; none where it takes nothing.
     pub fn next(self, pass: Pass, usable: Lots, amount: Yen) -> Option<Turn>
-        requires { Turnable pass self.had.0 usable.0 self.reached.0 amount.0 }
+        requires { NextAsks pass self.had.0 usable.0 self.reached.0 amount.0 }
         ensures { (t : Terms) → QuoteOf t self.quote → Took t self.had.0 self.reached.0 (next_of pass t usable.0 self.had.0 self.reached.0 amount.0) result }
     {
         match pass {
@@ -145,7 +145,7 @@ impl Standing {
 
     // "the fewest further lots of one forced issue reach the amount".
     pub fn further_lots(self, amount: Yen) -> Lots
-        requires { NotReached self.reached.0 amount.0 }
+        requires { FurtherLotsAsks self.reached.0 amount.0 }
         ensures { (t : Terms) → QuoteOf t self.quote → result.0 ≡ fewest_of t (amount.0 - besides t self.had.0 self.reached.0) - self.had.0 }
     {
         let rest = self.others();

@@ -17,7 +17,7 @@ use Rattle.rule.specs.Day.{price_at, coupon_at, days_at, terms_of}
 use Rattle.rule.specs.Sound.{terms_fit, marks_fit, all_terms_fit}
 use Rattle.value.specs.Range.{InRange}
 use Rattle.value.specs.Quote.{QuoteOf}
-use Rattle.value.specs.Quotes.{QuotedAt, Quotes, Termed}
+use Rattle.value.specs.Quotes.{QuotedAt, Quotes, QuoteFillAsks}
 use Rattle.value.specs.declared.Quote.{Quote}
 use Rattle.value.proofs.QuoteLaws.{some-price}
 
@@ -79,7 +79,7 @@ fit-terms t h =
       days_most = leb-true _ _ (and_right (k && low && high && coupon) days h);
     }
 
-pub sound-termed : (n : ℕ) (issues : List (List ℕ)) (ms : List Marks) → length issues ≡ n → all_terms_fit n (map terms_of issues) ms ≡ true → Termed n issues
+pub sound-termed : (n : ℕ) (issues : List (List ℕ)) (ms : List Marks) → length issues ≡ n → all_terms_fit n (map terms_of issues) ms ≡ true → QuoteFillAsks n issues
 unfolding all_terms_fit
 sound-termed n issues ms e fit = record {
   many = e;

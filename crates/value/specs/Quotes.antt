@@ -15,6 +15,6 @@ pub record Quotes (ts : List Terms) (quotes : List Quote) : Type 0 where
   pub each : (i : ℕ) → i < length ts → QuotedAt (get_or ts i no_terms) quotes i
 
 -- the cells of so many issues, with terms in their ranges
-pub record Termed (n : ℕ) (issues : List (List ℕ)) : Type 0 where
+pub record QuoteFillAsks (n : ℕ) (issues : List (List ℕ)) : Type 0 where
   pub many : length issues ≡ n
   pub in_range : (i : ℕ) → i < n → let t : Terms = terms_of (get_or issues i []) in InRange t.price t.coupon t.days

@@ -17,7 +17,7 @@ pub struct Quote {
 
 impl Quote {
     ghost use Rattle.value.specs.Quote.{QuoteOf};
-    ghost use Rattle.value.specs.Quotes.{Quotes, Termed};
+    ghost use Rattle.value.specs.Quotes.{Quotes, QuoteFillAsks};
 
     // The least that there is, for places that no quote was written to.
     pub const LEAST: Quote = Quote { rate: 3_650_000 };
@@ -37,7 +37,7 @@ impl Quote {
     // The quotes of the day's issues. By number: `zip` over `quotes.iter_mut()` was tried, but of what is written through it a proof knows
     // nothing.
     pub fn fill(issues: &[layout::Terms], quotes: &mut [Quote])
-        requires { Termed (length quotes.old) issues.now }
+        requires { QuoteFillAsks (length quotes.old) issues.now }
         ensures { Quotes (map terms_of issues.now) quotes.new }
     {
         for (i, quote) in quotes.iter_mut().enumerate() {
