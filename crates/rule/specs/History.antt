@@ -1,4 +1,4 @@
--- Document 01, "any list of calls": calls one after the other on a book, with their replies and what their runs handed out. Assumes nothing.
+-- Document 01, "a whole list of calls": calls one after the other on a book, with their replies and what their runs handed out. Assumes nothing.
 use Rattle.std.specs.Prelude.{ℕ, List, [], ◌∷◌, ◌++◌, map}
 use Rattle.lists.specs.Folds.{foldl}
 use Rattle.lists.specs.Parts.{grid}
