@@ -21,7 +21,7 @@ use Rattle.lists.proofs.PartLaws.{part_length, part-back}
 use Rattle.rule.specs.Day.{notice_row, noticed}
 use Rattle.rule.specs.Calls.{distinct}
 use Rattle.rule.specs.Sound.{notice_limit}
-use Rattle.rule.specs.Layout.{notices_at, view, stored, issues_at, lots_row}
+use Rattle.rule.specs.Layout.{participants_at, runs_at, notices_at, view, stored, issues_at, lots_row}
 use Rattle.rule.proofs.AnswerLaws.{denied, granted}
 use Rattle.rule.proofs.BookLaws.{SoundBook}
 use Rattle.rule.proofs.NoticeLaws.{Noticeable, length-notice_row, notice-stored}
@@ -113,14 +113,14 @@ row_back b p m {at} issues lots c place e fit h =
 
 -- ---- an accepted notice, in a sound book
 
-module _ (b : List ℕ) (s : SoundBook b) (issues : List ℕ) (named : all_below (length issues) (λ j. ltb (get_or issues j 0) (get_or b 1 0)) ≡ true) where
-  of_day : (j : ℕ) → j < length issues → get_or issues j 0 < get_or b 1 0
-  of_day j l = ltb-true (get_or issues j 0) (get_or b 1 0) (all-at (λ j. ltb (get_or issues j 0) (get_or b 1 0)) (length issues) named j l)
+module _ (b : List ℕ) (s : SoundBook b) (issues : List ℕ) (named : all_below (length issues) (λ j. ltb (get_or issues j 0) (get_or b issues_at 0)) ≡ true) where
+  of_day : (j : ℕ) → j < length issues → get_or issues j 0 < get_or b issues_at 0
+  of_day j l = ltb-true (get_or issues j 0) (get_or b issues_at 0) (all-at (λ j. ltb (get_or issues j 0) (get_or b issues_at 0)) (length issues) named j l)
 
   pub markable : AllDistinctAsks 32 issues
   markable = record { below = λ j l. omega (arith, of_day j l, s.sizes.most) }
 
-  module _ (p : ℕ) (lots : List ℕ) (sender : p < get_or b 0 0) (even : length issues ≡ length lots) where
+  module _ (p : ℕ) (lots : List ℕ) (sender : p < get_or b participants_at 0) (even : length issues ≡ length lots) where
     pub writable : WriteAsks b p issues lots
     writable = record {
       size = s.readable.size;
@@ -129,7 +129,7 @@ module _ (b : List ℕ) (s : SoundBook b) (issues : List ℕ) (named : all_below
       entries = record { lengths = even; named = record { below = of_day } };
     }
 
-    module _ (runs : get_or b 2 0 < 3) (once : distinct issues ≡ true) (few : all_below (length lots) (λ j. leb (get_or lots j 0) notice_limit) ≡ true) where
+    module _ (runs : get_or b runs_at 0 < 3) (once : distinct issues ≡ true) (few : all_below (length lots) (λ j. leb (get_or lots j 0) notice_limit) ≡ true) where
       noticeable : Noticeable (view b) p issues lots
       unfolding view
       noticeable = record {

@@ -14,24 +14,24 @@ use Rattle.lists.proofs.TestLaws.{and_left, and_right}
 use Rattle.lists.proofs.TableLaws.{length-table, get_or-table}
 use Rattle.lists.proofs.PartLaws.{grid-get, grid-shape}
 use Rattle.rule.specs.Sound.{sound}
-use Rattle.rule.specs.Layout.{positions_at, book_length, plus, minus, view, book_fits, sound_book, most_participants, position_cell}
+use Rattle.rule.specs.Layout.{issues_at, participants_at, positions_at, book_length, plus, minus, view, book_fits, sound_book, most_participants, position_cell}
 use Rattle.rule.proofs.SoundLaws.{Sizes, sizes-of, SoundDay, sound-facts}
 use Rattle.rule.proofs.LayoutLaws.{Readable, map-cell, view-shaped}
 
 pub record SoundBook (b : List ℕ) : Type 0 where
   pub readable : Readable b
   pub day : SoundDay (view b)
-  pub sizes : Sizes (get_or b 0 0) (get_or b 1 0)
+  pub sizes : Sizes (get_or b participants_at 0) (get_or b issues_at 0)
 
-sizes-in : (b : List ℕ) → SoundDay (view b) → Sizes (get_or b 0 0) (get_or b 1 0)
+sizes-in : (b : List ℕ) → SoundDay (view b) → Sizes (get_or b participants_at 0) (get_or b issues_at 0)
 unfolding view
-sizes-in b d = sizes-of (get_or b 0 0) (get_or b 1 0) d.given.sizes
+sizes-in b d = sizes-of (get_or b participants_at 0) (get_or b issues_at 0) d.given.sizes
 
 pub sound-book : (b : List ℕ) → ((j : ℕ) → get_or b j 0 < 18446744073709551616) → sound_book b ≡ true → SoundBook b
 unfolding sound_book book_fits
 sound-book b words h =
     let d : SoundDay (view b) = sound-facts (view b) (and_right (eqb (length b) book_length) (sound (view b)) h) in
-    let z : Sizes (get_or b 0 0) (get_or b 1 0) = sizes-in b d in
+    let z : Sizes (get_or b participants_at 0) (get_or b issues_at 0) = sizes-in b d in
     record {
       readable = record { size = eqb-true (length b) book_length (and_left (eqb (length b) book_length) (sound (view b)) h); few = z.few; most = z.most; words = words };
       day = d;
@@ -45,32 +45,32 @@ table_of l n f e h =
 
 module _ (b : List ℕ) (r : Readable b) where
   -- a position in the book
-  pub view-owed : (k p : ℕ) → k < 7 → p < get_or b 0 0 → cell (view b).state.owed k p ≡ plus (get_or b (position_cell k p) 0)
+  pub view-owed : (k p : ℕ) → k < 7 → p < get_or b participants_at 0 → cell (view b).state.owed k p ≡ plus (get_or b (position_cell k p) 0)
   unfolding view
   view-owed k p l h =
-      map-cell plus (grid b positions_at most_participants 7 (get_or b 0 0)) 7 (get_or b 0 0) k p (grid-shape b positions_at most_participants 7 (get_or b 0 0) r.few (omega (arith, r.size))) l h
-      ∙ ap plus (grid-get b positions_at most_participants 7 (get_or b 0 0) k p l h)
+      map-cell plus (grid b positions_at most_participants 7 (get_or b participants_at 0)) 7 (get_or b participants_at 0) k p (grid-shape b positions_at most_participants 7 (get_or b participants_at 0) r.few (omega (arith, r.size))) l h
+      ∙ ap plus (grid-get b positions_at most_participants 7 (get_or b participants_at 0) k p l h)
 
-  pub view-due : (k p : ℕ) → k < 7 → p < get_or b 0 0 → cell (view b).state.due k p ≡ minus (get_or b (position_cell k p) 0)
+  pub view-due : (k p : ℕ) → k < 7 → p < get_or b participants_at 0 → cell (view b).state.due k p ≡ minus (get_or b (position_cell k p) 0)
   unfolding view
   view-due k p l h =
-      map-cell minus (grid b positions_at most_participants 7 (get_or b 0 0)) 7 (get_or b 0 0) k p (grid-shape b positions_at most_participants 7 (get_or b 0 0) r.few (omega (arith, r.size))) l h
-      ∙ ap minus (grid-get b positions_at most_participants 7 (get_or b 0 0) k p l h)
+      map-cell minus (grid b positions_at most_participants 7 (get_or b participants_at 0)) 7 (get_or b participants_at 0) k p (grid-shape b positions_at most_participants 7 (get_or b participants_at 0) r.few (omega (arith, r.size))) l h
+      ∙ ap minus (grid-get b positions_at most_participants 7 (get_or b participants_at 0) k p l h)
 
   -- a basket's positions, at their places
   module _ (k : ℕ) (l : k < 7) where
-    row-size : length (row (view b).state.owed k) ≡ get_or b 0 0
+    row-size : length (row (view b).state.owed k) ≡ get_or b participants_at 0
     unfolding view
     row-size = (view-shaped b r).owed.cells k l
 
-    due_size : length (row (view b).state.due k) ≡ get_or b 0 0
+    due_size : length (row (view b).state.due k) ≡ get_or b participants_at 0
     unfolding view
     due_size = (view-shaped b r).due.cells k l
 
-    pub row-owed : row (view b).state.owed k ≡ table (get_or b 0 0) (λ p. plus (get_or b (position_cell k p) 0))
+    pub row-owed : row (view b).state.owed k ≡ table (get_or b participants_at 0) (λ p. plus (get_or b (position_cell k p) 0))
     row-owed =
-        table_of (row (view b).state.owed k) (get_or b 0 0) (λ p. plus (get_or b (position_cell k p) 0)) row-size (λ p h. view-owed k p l h)
+        table_of (row (view b).state.owed k) (get_or b participants_at 0) (λ p. plus (get_or b (position_cell k p) 0)) row-size (λ p h. view-owed k p l h)
 
-    pub row-due : row (view b).state.due k ≡ table (get_or b 0 0) (λ p. minus (get_or b (position_cell k p) 0))
+    pub row-due : row (view b).state.due k ≡ table (get_or b participants_at 0) (λ p. minus (get_or b (position_cell k p) 0))
     row-due =
-        table_of (row (view b).state.due k) (get_or b 0 0) (λ p. minus (get_or b (position_cell k p) 0)) due_size (λ p h. view-due k p l h)
+        table_of (row (view b).state.due k) (get_or b participants_at 0) (λ p. minus (get_or b (position_cell k p) 0)) due_size (λ p h. view-due k p l h)

@@ -21,7 +21,7 @@ use Rattle.lists.proofs.PartLaws.{Inside, Outside, Reads, Rising, length-written
 use Rattle.rule.specs.Value.{Terms, no_terms}
 use Rattle.rule.specs.Allocable.{Marks, no_marks}
 use Rattle.rule.specs.Day.{Given, State, Day, baskets, terms_of, marks_of, code_size, term_size}
-use Rattle.rule.specs.Layout.{codes_at, terms_at, receipts_at, pairs_at, positions_at, notices_at, today_at, tally_at, book_length, plus, minus, signed, signed_rows, cube, view, terms_row, terms_rows, cube_rows, given_tables, state_tables, tables_of, stored, lots_cell, lots_row, square, mark_square, mark_cell, most_issues, most_participants, position_cell, position_row}
+use Rattle.rule.specs.Layout.{issues_at, participants_at, runs_at, trades_at, codes_at, terms_at, receipts_at, pairs_at, positions_at, notices_at, today_at, tally_at, book_length, plus, minus, signed, signed_rows, cube, view, terms_row, terms_rows, cube_rows, given_tables, state_tables, tables_of, stored, lots_cell, lots_row, square, mark_square, mark_cell, most_issues, most_participants, position_cell, position_row}
 
 -- ---- a signed number and its cell
 
@@ -117,10 +117,10 @@ pub record HoldsGiven (b : List ℕ) (g : Given) : Type 0 where
 
 -- the book has the day's cells
 pub record Holds (b : List ℕ) (y : Day) : Type 0 where
-  pub participants : get_or b 0 0 ≡ y.given.participants
-  pub issues : get_or b 1 0 ≡ y.given.issues
-  pub runs : get_or b 2 0 ≡ y.state.runs
-  pub trades : get_or b 3 0 ≡ y.state.trades
+  pub participants : get_or b participants_at 0 ≡ y.given.participants
+  pub issues : get_or b issues_at 0 ≡ y.given.issues
+  pub runs : get_or b runs_at 0 ≡ y.state.runs
+  pub trades : get_or b trades_at 0 ≡ y.state.trades
   pub given : HoldsGiven b y.given
   pub positions : Stands b positions_at most_participants 7 y.given.participants (signed_rows y.state.owed y.state.due)
   pub notices : Stands b notices_at most_issues y.given.participants y.given.issues y.state.notices
@@ -187,7 +187,7 @@ marks-back g e =
     get_d_map marks_of (terms_rows g) p [] no_marks (omega (arith, terms-length g)) ∙ ap marks_of (terms-at g p k))
 
 -- the first four cells
-four : (b : List ℕ) → 4 ≤ length b → block b 0 4 ≡ get_or b 0 0 ∷ get_or b 1 0 ∷ get_or b 2 0 ∷ get_or b 3 0 ∷ []
+four : (b : List ℕ) → codes_at ≤ length b → block b 0 codes_at ≡ get_or b participants_at 0 ∷ get_or b issues_at 0 ∷ get_or b runs_at 0 ∷ get_or b trades_at 0 ∷ []
 four [] h = absurd (omega arith)
 four (a ∷ []) h = absurd (omega arith)
 four (a ∷ b ∷ []) h = absurd (omega arith)
@@ -451,7 +451,7 @@ module _ (y : Day) (s : Shaped y) where
   reads-holds : (b : List ℕ) → length b ≡ book_length → Every (Reads b) (joined (tables_of y)) → Holds b y
   reads-holds b e h =
       let r : DayTables (Reads b) y = tables-of (Reads b) y h in
-      let head : get_or b 0 0 ∷ get_or b 1 0 ∷ get_or b 2 0 ∷ get_or b 3 0 ∷ [] ≡ n ∷ m ∷ y.state.runs ∷ y.state.trades ∷ [] = sym (four b (omega arith)) ∙ r.counts.0 in
+      let head : get_or b participants_at 0 ∷ get_or b issues_at 0 ∷ get_or b runs_at 0 ∷ get_or b trades_at 0 ∷ [] ≡ n ∷ m ∷ y.state.runs ∷ y.state.trades ∷ [] = sym (four b (omega arith)) ∙ r.counts.0 in
       record {
         participants = ap (λ (l : List ℕ). get_or l 0 0) head;
         issues = ap (λ (l : List ℕ). get_or l 1 0) head;
@@ -494,10 +494,10 @@ module _ (y : Day) (s : Shaped y) where
       parts : DayTables (Outside j) y
       parts = tables-of (Outside j) y q
 
-      pub outside-sizes : 4 ≤ j
+      pub outside-sizes : codes_at ≤ j
       outside-sizes = past parts.counts.0
         where
-          past : (j < 0) ⊎ (4 ≤ j) → 4 ≤ j
+          past : (j < 0) ⊎ (codes_at ≤ j) → codes_at ≤ j
           past (inl h) = absurd (omega arith)
           past (inr h) = h
 
@@ -545,34 +545,34 @@ module _ (y : Day) (s : Shaped y) where
     pub holds-view : view b ≡ y
     unfolding view
     holds-view =
-        let en : get_or b 0 0 ≡ n = h.participants in
-        let em : get_or b 1 0 ≡ m = h.issues in
-        let codes : grid b codes_at code_size (get_or b 1 0) code_size ≡ y.given.codes =
+        let en : get_or b participants_at 0 ≡ n = h.participants in
+        let em : get_or b issues_at 0 ≡ m = h.issues in
+        let codes : grid b codes_at code_size (get_or b issues_at 0) code_size ≡ y.given.codes =
         ap (λ (j : ℕ). grid b codes_at code_size j code_size) em ∙ stands-grid b codes_at code_size m code_size y.given.codes s.given.codes (omega arith) (omega (arith, s.given.most)) h.given.codes in
-        let issue_terms : map terms_of (grid b terms_at term_size (get_or b 1 0) term_size) ≡ y.given.terms =
+        let issue_terms : map terms_of (grid b terms_at term_size (get_or b issues_at 0) term_size) ≡ y.given.terms =
         ap (λ (j : ℕ). map terms_of (grid b terms_at term_size j term_size)) em
         ∙ ap (map terms_of) term-grid ∙ terms-back y.given s.given.terms in
-        let marks : map marks_of (grid b terms_at term_size (get_or b 1 0) term_size) ≡ y.given.marks =
+        let marks : map marks_of (grid b terms_at term_size (get_or b issues_at 0) term_size) ≡ y.given.marks =
         ap (λ (j : ℕ). map marks_of (grid b terms_at term_size j term_size)) em ∙ ap (map marks_of) term-grid ∙ marks-back y.given s.given.marks in
-        let receipts : grid b receipts_at most_issues (get_or b 0 0) (get_or b 1 0) ≡ y.given.receipts =
+        let receipts : grid b receipts_at most_issues (get_or b participants_at 0) (get_or b issues_at 0) ≡ y.given.receipts =
         ap₂ (grid b receipts_at most_issues) en em ∙ stands-grid b receipts_at most_issues n m y.given.receipts s.given.receipts s.given.most (omega (arith, s.given.few)) h.given.receipts in
-        let pairs : cube b pairs_at (get_or b 0 0) ≡ y.given.pairs =
+        let pairs : cube b pairs_at (get_or b participants_at 0) ≡ y.given.pairs =
         ap (cube b pairs_at) en ∙ cube-view b pairs_at y.given.pairs s.given.pair_baskets s.given.pairs (omega arith) h.given.pairs in
-        let side_positions : (f : ℕ → ℕ) → map (map f) (grid b positions_at most_participants baskets (get_or b 0 0)) ≡ map (map f) positions =
+        let side_positions : (f : ℕ → ℕ) → map (map f) (grid b positions_at most_participants baskets (get_or b participants_at 0)) ≡ map (map f) positions =
         λ f. ap (λ (j : ℕ). map (map f) (grid b positions_at most_participants baskets j)) en ∙ ap (map (map f)) position-grid in
-        let notices : grid b notices_at most_issues (get_or b 0 0) (get_or b 1 0) ≡ y.state.notices =
+        let notices : grid b notices_at most_issues (get_or b participants_at 0) (get_or b issues_at 0) ≡ y.state.notices =
         ap₂ (grid b notices_at most_issues) en em ∙ stands-grid b notices_at most_issues n m y.state.notices s.notices s.given.most (omega (arith, s.given.few)) h.notices in
-        let today : cube b today_at (get_or b 0 0) ≡ y.state.today =
+        let today : cube b today_at (get_or b participants_at 0) ≡ y.state.today =
         ap (cube b today_at) en ∙ cube-view b today_at y.state.today s.today_baskets s.today (omega arith) h.today in
-        let side_tally : (f : ℕ → ℕ) → map (map f) (grid b tally_at most_issues (get_or b 0 0) (get_or b 1 0)) ≡ map (map f) tally =
+        let side_tally : (f : ℕ → ℕ) → map (map f) (grid b tally_at most_issues (get_or b participants_at 0) (get_or b issues_at 0)) ≡ map (map f) tally =
         λ f. ap (map (map f)) (ap₂ (grid b tally_at most_issues) en em ∙ tally-grid) in
-        let owed : map (map plus) (grid b positions_at most_participants baskets (get_or b 0 0)) ≡ y.state.owed =
+        let owed : map (map plus) (grid b positions_at most_participants baskets (get_or b participants_at 0)) ≡ y.state.owed =
         side_positions plus ∙ parts-of plus y.state.owed y.state.due y.state.owed 7 n s.owed s.owed (λ k p l j. plus-signed (g.positions k p l j)) in
-        let due : map (map minus) (grid b positions_at most_participants baskets (get_or b 0 0)) ≡ y.state.due =
+        let due : map (map minus) (grid b positions_at most_participants baskets (get_or b participants_at 0)) ≡ y.state.due =
         side_positions minus ∙ parts-of minus y.state.owed y.state.due y.state.due 7 n s.owed s.due (λ k p l j. minus-signed (g.positions k p l j)) in
-        let delivered : map (map plus) (grid b tally_at most_issues (get_or b 0 0) (get_or b 1 0)) ≡ y.state.delivered =
+        let delivered : map (map plus) (grid b tally_at most_issues (get_or b participants_at 0) (get_or b issues_at 0)) ≡ y.state.delivered =
         side_tally plus ∙ parts-of plus y.state.delivered y.state.received y.state.delivered n m s.delivered s.delivered (λ p i l j. plus-signed (g.tally p i l j)) in
-        let received : map (map minus) (grid b tally_at most_issues (get_or b 0 0) (get_or b 1 0)) ≡ y.state.received =
+        let received : map (map minus) (grid b tally_at most_issues (get_or b participants_at 0) (get_or b issues_at 0)) ≡ y.state.received =
         side_tally minus ∙ parts-of minus y.state.delivered y.state.received y.state.received n m s.delivered s.received (λ p i l j. minus-signed (g.tally p i l j)) in
         λ i. record {
           given = record { participants = en i; issues = em i; codes = codes i; terms = issue_terms i; marks = marks i; receipts = receipts i; pairs = pairs i };
@@ -636,22 +636,22 @@ split-signs b at stride n m words s p i l k =
 
 pub record Readable (b : List ℕ) : Type 0 where
   pub size : length b ≡ book_length
-  pub few : get_or b 0 0 ≤ 12
-  pub most : get_or b 1 0 ≤ 32
+  pub few : get_or b participants_at 0 ≤ 12
+  pub most : get_or b issues_at 0 ≤ 32
   pub words : (j : ℕ) → get_or b j 0 < 18446744073709551616
 
 module _ (b : List ℕ) (r : Readable b) where
-  position-read : Shape (grid b positions_at most_participants 7 (get_or b 0 0)) 7 (get_or b 0 0)
-  position-read = grid-shape b positions_at most_participants 7 (get_or b 0 0) r.few (omega (arith, r.size))
+  position-read : Shape (grid b positions_at most_participants 7 (get_or b participants_at 0)) 7 (get_or b participants_at 0)
+  position-read = grid-shape b positions_at most_participants 7 (get_or b participants_at 0) r.few (omega (arith, r.size))
 
-  tally-read : Shape (grid b tally_at most_issues (get_or b 0 0) (get_or b 1 0)) (get_or b 0 0) (get_or b 1 0)
-  tally-read = grid-shape b tally_at most_issues (get_or b 0 0) (get_or b 1 0) r.most (omega (arith, r.size, r.few))
+  tally-read : Shape (grid b tally_at most_issues (get_or b participants_at 0) (get_or b issues_at 0)) (get_or b participants_at 0) (get_or b issues_at 0)
+  tally-read = grid-shape b tally_at most_issues (get_or b participants_at 0) (get_or b issues_at 0) r.most (omega (arith, r.size, r.few))
 
-  cube-row : (at k : ℕ) → k < 7 → row (cube b at (get_or b 0 0)) k ≡ grid b (mark_square at k) most_participants (get_or b 0 0) (get_or b 0 0)
-  cube-row at k l = get_or-table 7 (λ k. grid b (mark_square at k) most_participants (get_or b 0 0) (get_or b 0 0)) k [] l
+  cube-row : (at k : ℕ) → k < 7 → row (cube b at (get_or b participants_at 0)) k ≡ grid b (mark_square at k) most_participants (get_or b participants_at 0) (get_or b participants_at 0)
+  cube-row at k l = get_or-table 7 (λ k. grid b (mark_square at k) most_participants (get_or b participants_at 0) (get_or b participants_at 0)) k [] l
 
-  cube-read : (at : ℕ) → mark_square at 7 ≤ book_length → (k : ℕ) → k < 7 → Shape (row (cube b at (get_or b 0 0)) k) (get_or b 0 0) (get_or b 0 0)
-  cube-read at fit k l = rw (cube-row at k l) (grid-shape b (mark_square at k) most_participants (get_or b 0 0) (get_or b 0 0) r.few (omega (arith, r.size, r.few)))
+  cube-read : (at : ℕ) → mark_square at 7 ≤ book_length → (k : ℕ) → k < 7 → Shape (row (cube b at (get_or b participants_at 0)) k) (get_or b participants_at 0) (get_or b participants_at 0)
+  cube-read at fit k l = rw (cube-row at k l) (grid-shape b (mark_square at k) most_participants (get_or b participants_at 0) (get_or b participants_at 0) r.few (omega (arith, r.size, r.few)))
 
   pub view-shaped : Shaped (view b)
   unfolding view
@@ -659,40 +659,40 @@ module _ (b : List ℕ) (r : Readable b) where
     given = record {
       few = r.few;
       most = r.most;
-      codes = grid-shape b codes_at code_size (get_or b 1 0) code_size (omega arith) (omega (arith, r.size, r.most));
-      terms = length-map (grid b terms_at term_size (get_or b 1 0) term_size) terms_of ∙ length-table (get_or b 1 0) _;
-      marks = length-map (grid b terms_at term_size (get_or b 1 0) term_size) marks_of ∙ length-table (get_or b 1 0) _;
-      receipts = grid-shape b receipts_at most_issues (get_or b 0 0) (get_or b 1 0) r.most (omega (arith, r.size, r.few));
+      codes = grid-shape b codes_at code_size (get_or b issues_at 0) code_size (omega arith) (omega (arith, r.size, r.most));
+      terms = length-map (grid b terms_at term_size (get_or b issues_at 0) term_size) terms_of ∙ length-table (get_or b issues_at 0) _;
+      marks = length-map (grid b terms_at term_size (get_or b issues_at 0) term_size) marks_of ∙ length-table (get_or b issues_at 0) _;
+      receipts = grid-shape b receipts_at most_issues (get_or b participants_at 0) (get_or b issues_at 0) r.most (omega (arith, r.size, r.few));
       pairs = cube-read pairs_at (omega arith);
-      pair_baskets = length-table baskets (λ k. grid b (mark_square pairs_at k) most_participants (get_or b 0 0) (get_or b 0 0));
+      pair_baskets = length-table baskets (λ k. grid b (mark_square pairs_at k) most_participants (get_or b participants_at 0) (get_or b participants_at 0));
     };
-    owed = map-shape plus (grid b positions_at most_participants 7 (get_or b 0 0)) 7 (get_or b 0 0) position-read;
-    due = map-shape minus (grid b positions_at most_participants 7 (get_or b 0 0)) 7 (get_or b 0 0) position-read;
-    notices = grid-shape b notices_at most_issues (get_or b 0 0) (get_or b 1 0) r.most (omega (arith, r.size, r.few));
+    owed = map-shape plus (grid b positions_at most_participants 7 (get_or b participants_at 0)) 7 (get_or b participants_at 0) position-read;
+    due = map-shape minus (grid b positions_at most_participants 7 (get_or b participants_at 0)) 7 (get_or b participants_at 0) position-read;
+    notices = grid-shape b notices_at most_issues (get_or b participants_at 0) (get_or b issues_at 0) r.most (omega (arith, r.size, r.few));
     today = cube-read today_at (omega arith);
-    today_baskets = length-table 7 (λ k. grid b (mark_square today_at k) most_participants (get_or b 0 0) (get_or b 0 0));
-    delivered = map-shape plus (grid b tally_at most_issues (get_or b 0 0) (get_or b 1 0)) (get_or b 0 0) (get_or b 1 0) tally-read;
-    received = map-shape minus (grid b tally_at most_issues (get_or b 0 0) (get_or b 1 0)) (get_or b 0 0) (get_or b 1 0) tally-read;
+    today_baskets = length-table 7 (λ k. grid b (mark_square today_at k) most_participants (get_or b participants_at 0) (get_or b participants_at 0));
+    delivered = map-shape plus (grid b tally_at most_issues (get_or b participants_at 0) (get_or b issues_at 0)) (get_or b participants_at 0) (get_or b issues_at 0) tally-read;
+    received = map-shape minus (grid b tally_at most_issues (get_or b participants_at 0) (get_or b issues_at 0)) (get_or b participants_at 0) (get_or b issues_at 0) tally-read;
   }
 
   pub view-signed : Signed (view b) view-shaped
   unfolding view
   view-signed = record {
-    positions = split-signs b positions_at most_participants 7 (get_or b 0 0) r.words position-read;
-    tally = split-signs b tally_at most_issues (get_or b 0 0) (get_or b 1 0) r.words tally-read;
+    positions = split-signs b positions_at most_participants 7 (get_or b participants_at 0) r.words position-read;
+    tally = split-signs b tally_at most_issues (get_or b participants_at 0) (get_or b issues_at 0) r.words tally-read;
   }
 
-  cube-holds : (at k : ℕ) → k < 7 → Stands b (mark_square at k) most_participants (get_or b 0 0) (get_or b 0 0) (row (cube b at (get_or b 0 0)) k)
-  cube-holds at k l = rw (cube-row at k l) (grid-stands b (mark_square at k) most_participants (get_or b 0 0) (get_or b 0 0))
+  cube-holds : (at k : ℕ) → k < 7 → Stands b (mark_square at k) most_participants (get_or b participants_at 0) (get_or b participants_at 0) (row (cube b at (get_or b participants_at 0)) k)
+  cube-holds at k l = rw (cube-row at k l) (grid-stands b (mark_square at k) most_participants (get_or b participants_at 0) (get_or b participants_at 0))
 
-  term-read : Shape (grid b terms_at term_size (get_or b 1 0) term_size) (get_or b 1 0) 6
-  term-read = grid-shape b terms_at term_size (get_or b 1 0) term_size (omega arith) (omega (arith, r.size, r.most))
+  term-read : Shape (grid b terms_at term_size (get_or b issues_at 0) term_size) (get_or b issues_at 0) 6
+  term-read = grid-shape b terms_at term_size (get_or b issues_at 0) term_size (omega arith) (omega (arith, r.size, r.most))
 
-  terms-holds : Stands b terms_at term_size (get_or b 1 0) term_size (terms_rows (view b).given)
+  terms-holds : Stands b terms_at term_size (get_or b issues_at 0) term_size (terms_rows (view b).given)
   unfolding view
   terms-holds =
-      let g : List (List ℕ) = grid b terms_at term_size (get_or b 1 0) term_size in
-      rw (terms-rows (view b).given g refl refl term-read) (grid-stands b terms_at term_size (get_or b 1 0) term_size)
+      let g : List (List ℕ) = grid b terms_at term_size (get_or b issues_at 0) term_size in
+      rw (terms-rows (view b).given g refl refl term-read) (grid-stands b terms_at term_size (get_or b issues_at 0) term_size)
 
   pub view-holds : Holds b (view b)
   unfolding view
@@ -702,15 +702,15 @@ module _ (b : List ℕ) (r : Readable b) where
     runs = refl;
     trades = refl;
     given = record {
-      codes = grid-stands b codes_at code_size (get_or b 1 0) code_size;
+      codes = grid-stands b codes_at code_size (get_or b issues_at 0) code_size;
       terms = terms-holds;
-      receipts = grid-stands b receipts_at most_issues (get_or b 0 0) (get_or b 1 0);
+      receipts = grid-stands b receipts_at most_issues (get_or b participants_at 0) (get_or b issues_at 0);
       pairs = cube-holds pairs_at;
     };
-    positions = split-stands b positions_at most_participants 7 (get_or b 0 0) r.words position-read;
-    notices = grid-stands b notices_at most_issues (get_or b 0 0) (get_or b 1 0);
+    positions = split-stands b positions_at most_participants 7 (get_or b participants_at 0) r.words position-read;
+    notices = grid-stands b notices_at most_issues (get_or b participants_at 0) (get_or b issues_at 0);
     today = cube-holds today_at;
-    tally = split-stands b tally_at most_issues (get_or b 0 0) (get_or b 1 0) r.words tally-read;
+    tally = split-stands b tally_at most_issues (get_or b participants_at 0) (get_or b issues_at 0) r.words tally-read;
   }
 
   -- what is viewed, stored again, changes nothing
@@ -730,7 +730,7 @@ module _ (y : Day) (s : Shaped y) (b c : List ℕ) where
       → Stands b at most_participants participants participants marks → Stands c at most_participants participants participants marks
   square-kept at marks same v = stands-agree b c at most_participants participants participants marks s.given.few (λ j l k. same j l (omega (arith, s.given.few))) v
 
-  pub given-kept : ((j : ℕ) → 4 ≤ j → j < positions_at → get_or c j 0 ≡ get_or b j 0) → HoldsGiven b y.given → HoldsGiven c y.given
+  pub given-kept : ((j : ℕ) → codes_at ≤ j → j < positions_at → get_or c j 0 ≡ get_or b j 0) → HoldsGiven b y.given → HoldsGiven c y.given
   given-kept same v = record {
     codes = stands-agree b c codes_at code_size issues code_size y.given.codes (omega arith) (λ j l k. same j (omega arith) (omega (arith, s.given.most))) v.codes;
     terms = stands-agree b c terms_at term_size issues term_size (terms_rows y.given) (omega arith) (λ j l k. same j (omega arith) (omega (arith, s.given.most))) v.terms;

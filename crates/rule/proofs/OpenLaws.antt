@@ -19,7 +19,7 @@ use Rattle.lists.proofs.FoldLaws.{sum_zeros, every_map}
 use Rattle.lists.proofs.TableLaws.{length-table, length-zeros, get_or-table, get_or-zeros}
 use Rattle.lists.proofs.PartLaws.{Inside, Outside, Shape, Stands, grid-shape, length-written, written_out, written-reads, rising-past}
 use Rattle.rule.specs.Day.{Given, baskets, mark, terms_of, given_of, opened, marks_of, code_size, term_size}
-use Rattle.rule.specs.Layout.{codes_at, positions_at, notices_at, today_at, tally_at, book_length, signed, signed_rows, given_tables, tables_of, stored, mark_square, most_issues, most_participants}
+use Rattle.rule.specs.Layout.{issues_at, participants_at, codes_at, positions_at, notices_at, today_at, tally_at, book_length, signed, signed_rows, given_tables, tables_of, stored, mark_square, most_issues, most_participants}
 use Rattle.rule.specs.Sound.{sizes_fit, at_most, pairs_fit, position_limit, notice_limit, tally_limit}
 use Rattle.rule.proofs.SoundLaws.{Most, of-most, Sizes, sizes-of, SoundGiven, SoundDay}
 use Rattle.rule.proofs.LayoutLaws.{of-given-tables, tables-of, Shaped, Signed, Signs, Holds, signed-cell, given_inside, given-rise, reads-given, outside-sizes, stored_is}
@@ -135,10 +135,10 @@ module _ (n m : ℕ) (codes terms receipts pairs : List ℕ) (h : Openable n m c
   sized-else : (j : ℕ) → 1 < j → get_or sized j 0 ≡ 0
   sized-else j l = get_or-set_other (set blank 0 n) 1 j m 0 (λ e. omega arith) ∙ get_or-set_other blank 0 j n 0 (λ e. omega arith) ∙ get_or-zeros book_length j
 
-  sized-participants : get_or sized 0 0 ≡ n
+  sized-participants : get_or sized participants_at 0 ≡ n
   sized-participants = get_or-set_other (set blank 0 n) 1 0 m 0 (λ e. omega arith) ∙ get_or-set_same blank 0 n 0 (omega (arith, length-blank))
 
-  sized-issues : get_or sized 1 0 ≡ m
+  sized-issues : get_or sized issues_at 0 ≡ m
   sized-issues = get_or-set_same (set blank 0 n) 1 m 0 (omega (arith, length-set blank 0 n, length-blank))
 
   inside : Every (Inside (length sized)) (joined (given_tables g))

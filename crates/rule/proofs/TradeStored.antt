@@ -11,7 +11,7 @@ use Rattle.lists.specs.Tables.{cell}
 use Rattle.lists.specs.Folds.{joined, Every}
 use Rattle.lists.proofs.PartLaws.{Outside, Stands}
 use Rattle.rule.specs.Day.{Day, traded}
-use Rattle.rule.specs.Layout.{positions_at, notices_at, book_length, plus, minus, signed, signed_rows, view, tables_of, stored, most_participants, position_cell, position_row}
+use Rattle.rule.specs.Layout.{trades_at, positions_at, notices_at, book_length, plus, minus, signed, signed_rows, view, tables_of, stored, most_participants, position_cell, position_row}
 use Rattle.rule.specs.Sound.{position_limit}
 use Rattle.rule.proofs.LayoutLaws.{Shaped, Holds, Readable, given-kept, notices-kept, today-kept, tally-kept, outside-sizes, outside-position, signed-cell, plus-out, plus-back, minus-out, minus-back, view-shaped, view-holds, stored_is}
 use Rattle.rule.proofs.TradeLaws.{Tradeable, owed2, due2, owed2-shape, traded-shaped, owed-seller, due-seller, owed-buyer, due-buyer, owed-other, due-other, which}
@@ -80,7 +80,7 @@ module _ (b : List ℕ) (r : Readable b) (seller buyer k yen sold bought count :
       get_or-set_other (set (set b at_seller sold) at_buyer bought) 3 at_buyer count 0 (λ e. omega arith)
       ∙ get_or-set_same (set b at_seller sold) at_buyer bought 0 (omega (arith, few, h.buys, h.basket, room.0))
 
-  after-count : get_or after 3 0 ≡ count
+  after-count : get_or after trades_at 0 ≡ count
   after-count = get_or-set_same (set (set b at_seller sold) at_buyer bought) 3 count 0 (omega (arith, room.1))
 
   -- before the positions and after them nothing changes but the count

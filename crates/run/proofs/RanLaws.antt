@@ -19,7 +19,7 @@ use Rattle.layout.specs.InBook.{participants_in, issues_in, issue_rows, book_ter
 use Rattle.rule.specs.Day.{Day, baskets, mark, terms_of}
 use Rattle.rule.specs.Sound.{all_terms_fit}
 use Rattle.rule.specs.Run.{Allocation, used, allocations, ran, covered_from, covered_to, covered_pair, lots_from, lots_to, match_list, line_list, lines_from}
-use Rattle.rule.specs.Layout.{row_cell, book_length, positions_at, notices_at, today_at, tally_at, view, stored, signed, signed_rows, tables_of, position_cell, lots_cell, mark_cell, most_participants, most_issues, lots_size, lots_row, mark_square}
+use Rattle.rule.specs.Layout.{runs_at, row_cell, book_length, positions_at, notices_at, today_at, tally_at, view, stored, signed, signed_rows, tables_of, position_cell, lots_cell, mark_cell, most_participants, most_issues, lots_size, lots_row, mark_square}
 use Rattle.rule.proofs.BookLaws.{SoundBook}
 use Rattle.rule.proofs.LayoutLaws.{Shaped, Holds, view-shaped, view-holds, signed-cell, given-kept, stored_is, outside-sizes, outside-position, outside-notice, outside-pair, outside-tally}
 use Rattle.rule.proofs.RunLaws.{Runnable}
@@ -200,7 +200,7 @@ module _ (b draw : List ℕ) (s : SoundBook b) (h : Runnable (view b) draw) (c d
   low : (j : ℕ) → j ≢ 2 → j < positions_at → get_or e j 0 ≡ get_or b j 0
   low j f l = else-kept j f (λ p i x z k. omega arith) ∙ low-kept b s done c w j l
 
-  count : get_or e 2 0 ≡ get_or b 2 0 + 1
+  count : get_or e runs_at 0 ≡ get_or b runs_at 0 + 1
   count =
       get_or-set_same d 2 (get_or d 2 0 + 1) 0 (omega (arith, v.size, w.size))
       ∙ ap (λ (x : ℕ). x + 1) (v.kept 2 (λ p i x z k. omega arith) ∙ low-kept b s done c w 2 (omega arith))

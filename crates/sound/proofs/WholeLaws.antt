@@ -11,7 +11,7 @@ use Rattle.lists.proofs.TableLaws.{get_or-table}
 use Rattle.lists.proofs.PartLaws.{grid-get}
 use Rattle.rule.specs.Day.{baskets, term_size}
 use Rattle.rule.specs.Sound.{sound, sizes_fit, receipts_fit, at_most, pairs_fit, tradable, position_limit, notice_limit, tally_limit, trade_limit}
-use Rattle.rule.specs.Layout.{book_length, terms_at, receipts_at, pairs_at, positions_at, notices_at, today_at, tally_at, plus, minus, cube, view, book_fits, sound_book, most_issues, most_participants, position_row}
+use Rattle.rule.specs.Layout.{issues_at, participants_at, runs_at, trades_at, book_length, terms_at, receipts_at, pairs_at, positions_at, notices_at, today_at, tally_at, plus, minus, cube, view, book_fits, sound_book, most_issues, most_participants, position_row}
 use Rattle.ranges.specs.Ranges.{row_passes, terms_in_range}
 use Rattle.layout.specs.InBook.{book_terms, book_marks}
 use Rattle.sound.specs.Sized.{Sized, is_within, while_runs, basket_fits, positions_fit, tally_fits, codes_fit, given_fits, state_within, state_fits}
@@ -110,13 +110,13 @@ module _ (b : List ℕ) (at stride n m : ℕ) where
 
 module _ (b : List ℕ) where
   abbrev n : ℕ
-  n = get_or b 0 0
+  n = get_or b participants_at 0
 
   abbrev m : ℕ
-  m = get_or b 1 0
+  m = get_or b issues_at 0
 
   abbrev runs : ℕ
-  runs = get_or b 2 0
+  runs = get_or b runs_at 0
 
   abbrev positions : List (List ℕ)
   positions = grid b positions_at most_participants baskets n
@@ -168,7 +168,7 @@ module _ (b : List ℕ) where
       ∙ positions-are (while_runs runs position_limit)
 
   abbrev state_of : Bool → Bool → Bool → Bool
-  state_of u v w = holds (leb runs 3 ∷ leb (get_or b 3 0) trade_limit ∷ u ∷ v ∷ w ∷ pairs_fit n (cube b today_at n) ∷ [])
+  state_of u v w = holds (leb runs 3 ∷ leb (get_or b trades_at 0) trade_limit ∷ u ∷ v ∷ w ∷ pairs_fit n (cube b today_at n) ∷ [])
 
   state-there : state_of (still notice_limit n m notices) standing tallied ≡ state_fits b
   unfolding state_fits state_within
@@ -184,7 +184,7 @@ module _ (b : List ℕ) where
       ∙ ap (λ (t : Bool). holds (sizes_fit n m ∷ given_fits b ∷ t ∷ [])) state-there)
 
 -- the tests of a book whose day has n participants and m issues
-module _ (b : List ℕ) (n m : ℕ) (e : n ≡ get_or b 0 0) (f : m ≡ get_or b 1 0) where
+module _ (b : List ℕ) (n m : ℕ) (e : n ≡ get_or b participants_at 0) (f : m ≡ get_or b issues_at 0) where
   pub given_is : given_fits b
       ≡ (codes_fit b
       && (terms_in_range m (grid b terms_at term_size m term_size)
@@ -192,26 +192,26 @@ module _ (b : List ℕ) (n m : ℕ) (e : n ≡ get_or b 0 0) (f : m ≡ get_or b
   unfolding given_fits receipts_fit holds
   given_is = rw (e, f) (simp and-true)
 
-  pub state_is : (runs lots yen : ℕ) → runs ≡ get_or b 2 0 → lots ≡ while_runs runs notice_limit → yen ≡ while_runs runs position_limit
+  pub state_is : (runs lots yen : ℕ) → runs ≡ get_or b runs_at 0 → lots ≡ while_runs runs notice_limit → yen ≡ while_runs runs position_limit
       → state_fits b
-      ≡ (leb runs 3 && (leb (get_or b 3 0) trade_limit
+      ≡ (leb runs 3 && (leb (get_or b trades_at 0) trade_limit
       && (at_most lots n m (grid b notices_at most_issues n m)
       && (positions_fit b yen && (tally_fits b (tally_limit * runs) && pairs_fit n (cube b today_at n))))))
   unfolding state_fits state_within holds
   state_is runs lots yen r l y = rw (e, f, l, y, r) (simp and-true)
 
-pub sound_is : (b : List ℕ) → sound_book b ≡ (eqb (length b) book_length && (sizes_fit (get_or b 0 0) (get_or b 1 0) && (given_fits b && state_fits b)))
+pub sound_is : (b : List ℕ) → sound_book b ≡ (eqb (length b) book_length && (sizes_fit (get_or b participants_at 0) (get_or b issues_at 0) && (given_fits b && state_fits b)))
 unfolding book_fits holds
 sound_is b = sound-is b ∙ simp and-true
 
 -- a book of its length whose sizes fit
-pub sized : (b : List ℕ) → length b ≡ book_length → sizes_fit (get_or b 0 0) (get_or b 1 0) ≡ true → Sized b
+pub sized : (b : List ℕ) → length b ≡ book_length → sizes_fit (get_or b participants_at 0) (get_or b issues_at 0) ≡ true → Sized b
 unfolding sizes_fit
 sized b e h =
-    let k : leb 2 (get_or b 0 0) && leb (get_or b 0 0) 12 && leb 1 (get_or b 1 0) ≡ true = and_left _ (leb (get_or b 1 0) 32) h in
-    let p : leb 2 (get_or b 0 0) && leb (get_or b 0 0) 12 ≡ true = and_left _ (leb 1 (get_or b 1 0)) k in
+    let k : leb 2 (get_or b participants_at 0) && leb (get_or b participants_at 0) 12 && leb 1 (get_or b issues_at 0) ≡ true = and_left _ (leb (get_or b issues_at 0) 32) h in
+    let p : leb 2 (get_or b participants_at 0) && leb (get_or b participants_at 0) 12 ≡ true = and_left _ (leb 1 (get_or b issues_at 0)) k in
     record {
       cells = e;
-      participants = leb-true _ _ (and_right (leb 2 (get_or b 0 0)) _ p);
-      issues = leb-true _ _ (and_right (leb 2 (get_or b 0 0) && leb (get_or b 0 0) 12 && leb 1 (get_or b 1 0)) _ h);
+      participants = leb-true _ _ (and_right (leb 2 (get_or b participants_at 0)) _ p);
+      issues = leb-true _ _ (and_right (leb 2 (get_or b participants_at 0) && leb (get_or b participants_at 0) 12 && leb 1 (get_or b issues_at 0)) _ h);
     }

@@ -4,7 +4,7 @@ use Rattle.lists.specs.Tables.{cell}
 use Rattle.rule.specs.Day.{traded}
 use Rattle.rule.specs.Calls.{afterwards}
 use Rattle.rule.specs.Sound.{tradable, position_limit, trade_limit}
-use Rattle.rule.specs.Layout.{position_cell, plus, minus, view, stored}
+use Rattle.rule.specs.Layout.{participants_at, trades_at, position_cell, plus, minus, view, stored}
 use Rattle.rule.proofs.LayoutLaws.{Readable, plus-signed, minus-signed}
 use Rattle.rule.proofs.BookLaws.{SoundBook, view-owed, view-due}
 use Rattle.rule.proofs.TradeLaws.{Tradeable}
@@ -34,7 +34,7 @@ bought_of c x w m =
 
 -- ---- a position of a sound book
 
-module _ (b : List ℕ) (s : SoundBook b) (k p at yen : ℕ) (basket : k < 7) (participant : p < get_or b 0 0) (place : at ≡ position_cell k p) where
+module _ (b : List ℕ) (s : SoundBook b) (k p at yen : ℕ) (basket : k < 7) (participant : p < get_or b participants_at 0) (place : at ≡ position_cell k p) where
   abbrev c : ℕ
   c = get_or b at 0
 
@@ -68,15 +68,15 @@ not-over limit r t e h = le-ltb limit t (omega arith)
 -- ---- an accepted trade, in a sound book
 
 module _ (b : List ℕ) (s : SoundBook b) (seller buyer k yen : ℕ) (h : Tradeable (view b) seller buyer k yen) (l : yen ≤ 1000000000000) where
-  sells : seller < get_or b 0 0
+  sells : seller < get_or b participants_at 0
   unfolding view
   sells = h.sells
 
-  buys : buyer < get_or b 0 0
+  buys : buyer < get_or b participants_at 0
   unfolding view
   buys = h.buys
 
-  count-is : (view b).state.trades ≡ get_or b 3 0
+  count-is : (view b).state.trades ≡ get_or b trades_at 0
   unfolding view
   count-is = refl
 
@@ -96,14 +96,14 @@ module _ (b : List ℕ) (s : SoundBook b) (seller buyer k yen : ℕ) (h : Tradea
 module _ (b : List ℕ) (seller buyer k yen : ℕ) (w : Between b seller buyer k yen) where
   tradeable : tradable k (view b).given.terms (view b).given.marks ≡ true
       → afterwards (cell (view b).state.owed k seller) (cell (view b).state.due k seller) yen ≤ position_limit
-      → afterwards (cell (view b).state.due k buyer) (cell (view b).state.owed k buyer) yen ≤ position_limit → get_or b 3 0 < trade_limit → Tradeable (view b) seller buyer k yen
+      → afterwards (cell (view b).state.due k buyer) (cell (view b).state.owed k buyer) yen ≤ position_limit → get_or b trades_at 0 < trade_limit → Tradeable (view b) seller buyer k yen
   unfolding view
   tradeable t s u n = record { sells = w.sells; buys = w.buys; basket = w.basket; apart = w.apart; runs = w.runs; tradable = t; sold = s; bought = u; trades = n }
 
   pub accepted-trade : (to_seller to_buyer sold bought at_seller at_buyer : ℕ) → to_seller ≡ cell_more (get_or b at_seller 0) yen → to_buyer ≡ cell_less (get_or b at_buyer 0) yen
       → at_seller ≡ position_cell k seller → at_buyer ≡ position_cell k buyer → tradable k (view b).given.terms (view b).given.marks ≡ true
       → sold ≡ afterwards (cell (view b).state.owed k seller) (cell (view b).state.due k seller) yen → sold ≤ position_limit
-      → bought ≡ afterwards (cell (view b).state.due k buyer) (cell (view b).state.owed k buyer) yen → bought ≤ position_limit → get_or b 3 0 < trade_limit
+      → bought ≡ afterwards (cell (view b).state.due k buyer) (cell (view b).state.owed k buyer) yen → bought ≤ position_limit → get_or b trades_at 0 < trade_limit
       → moved_to b at_seller at_buyer to_seller to_buyer ≡ stored b (traded (view b) seller buyer k yen)
   unfolding moved_of
   accepted-trade to_seller to_buyer sold bought at_seller at_buyer ms mb ps pb t es ls eb lb n =
