@@ -19,7 +19,8 @@ use Rattle.lists.proofs.CopyLaws.{Copies}
 use Rattle.lists.proofs.RowLaws.{made-of}
 use Rattle.lists.proofs.CutLaws.{grid-within}
 use Rattle.rule.specs.Calls.{Reply, accepted, refused, close_checks, tomorrow_receipts, tomorrow_pairs}
-use Rattle.rule.specs.Layout.{issues_at, participants_at, runs_at, tally_at, today_at, plus, cube, view, most_participants, most_issues, square, lots_row, mark_square}
+use Rattle.layout.specs.InBook.{participants_in, issues_in}
+use Rattle.rule.specs.Layout.{runs_at, tally_at, today_at, plus, cube, view, most_participants, most_issues, square, lots_row, mark_square}
 use Rattle.rule.proofs.LayoutLaws.{map-shape}
 use Rattle.rule.proofs.AnswerLaws.{answers}
 use Rattle.rule.proofs.BookLaws.{SoundBook}
@@ -85,101 +86,101 @@ module _ (b : List ℕ) (at n w : ℕ) (rows : List (List ℕ)) (s : Shape rows 
 -- ---- the tally where positive
 
 abbrev tally_rows : List ℕ → List (List ℕ)
-tally_rows b = map (map plus) (grid b tally_at most_issues (get_or b participants_at 0) (get_or b issues_at 0))
+tally_rows b = map (map plus) (grid b tally_at most_issues (participants_in b) (issues_in b))
 
 abbrev pub Received : List ℕ → List ℕ → List ℕ → ℕ → Type 0
-Received b receipts c p = Filled receipts 0 (get_or b issues_at 0) (tally_rows b) c p
+Received b receipts c p = Filled receipts 0 (issues_in b) (tally_rows b) c p
 
 module _ (b receipts : List ℕ) (f : WriteReceiptsAsks b receipts) where
-  tally-shape : Shape (grid b tally_at most_issues (get_or b participants_at 0) (get_or b issues_at 0)) (get_or b participants_at 0) (get_or b issues_at 0)
-  tally-shape = grid-shape b tally_at most_issues (get_or b participants_at 0) (get_or b issues_at 0) f.most (omega (arith, f.size, f.few))
+  tally-shape : Shape (grid b tally_at most_issues (participants_in b) (issues_in b)) (participants_in b) (issues_in b)
+  tally-shape = grid-shape b tally_at most_issues (participants_in b) (issues_in b) f.most (omega (arith, f.size, f.few))
 
-  tally-plus : Shape (tally_rows b) (get_or b participants_at 0) (get_or b issues_at 0)
-  tally-plus = map-shape plus (grid b tally_at most_issues (get_or b participants_at 0) (get_or b issues_at 0)) (get_or b participants_at 0) (get_or b issues_at 0) tally-shape
+  tally-plus : Shape (tally_rows b) (participants_in b) (issues_in b)
+  tally-plus = map-shape plus (grid b tally_at most_issues (participants_in b) (issues_in b)) (participants_in b) (issues_in b) tally-shape
 
-  receipts-room : 0 + get_or b issues_at 0 * get_or b participants_at 0 ≤ length receipts
-  receipts-room = omega (arith, f.room, mul_comm (get_or b issues_at 0) (get_or b participants_at 0))
+  receipts-room : 0 + issues_in b * participants_in b ≤ length receipts
+  receipts-room = omega (arith, f.room, mul_comm (issues_in b) (participants_in b))
 
-  tally-row : (p : ℕ) → p < get_or b participants_at 0 → map plus (block b (lots_row tally_at p) (get_or b issues_at 0)) ≡ row (tally_rows b) p
+  tally-row : (p : ℕ) → p < participants_in b → map plus (block b (lots_row tally_at p) (issues_in b)) ≡ row (tally_rows b) p
   tally-row p l =
-      let n : ℕ = get_or b participants_at 0 in
-      let m : ℕ = get_or b issues_at 0 in
+      let n : ℕ = participants_in b in
+      let m : ℕ = issues_in b in
       let g : List (List ℕ) = grid b tally_at most_issues n m in
       sym (get_d_map (map plus) g p [] [] (omega (arith, tally-shape.rows))
       ∙ ap (map plus) (get_or-table n (λ q. block b (lots_row tally_at q) m) p [] l))
 
   pub received_none : Received b receipts receipts 0
-  received_none = filled_none receipts 0 (get_or b participants_at 0) (get_or b issues_at 0) (tally_rows b) tally-plus receipts-room
+  received_none = filled_none receipts 0 (participants_in b) (issues_in b) (tally_rows b) tally-plus receipts-room
 
-  pub receipt-to : (p : ℕ) → p < get_or b participants_at 0 → get_or b issues_at 0 * p + get_or b issues_at 0 ≤ length receipts
-  receipt-to p l = omega (arith, room-to receipts 0 (get_or b participants_at 0) (get_or b issues_at 0) (tally_rows b) tally-plus receipts-room p l)
+  pub receipt-to : (p : ℕ) → p < participants_in b → issues_in b * p + issues_in b ≤ length receipts
+  receipt-to p l = omega (arith, room-to receipts 0 (participants_in b) (issues_in b) (tally_rows b) tally-plus receipts-room p l)
 
   -- each cell of a participant's row is the tally's where positive
-  module _ {c : List ℕ} {p : ℕ} (l : p < get_or b participants_at 0) (h : Received b receipts c p) where
-    part-long : length (take (get_or b issues_at 0 * p + get_or b issues_at 0 - get_or b issues_at 0 * p) (drop (get_or b issues_at 0 * p) c)) ≡ get_or b issues_at 0
-    part-long = part_length c (get_or b issues_at 0 * p) (get_or b issues_at 0) (omega (arith, receipt-to p l, h.size))
+  module _ {c : List ℕ} {p : ℕ} (l : p < participants_in b) (h : Received b receipts c p) where
+    part-long : length (take (issues_in b * p + issues_in b - issues_in b * p) (drop (issues_in b * p) c)) ≡ issues_in b
+    part-long = part_length c (issues_in b * p) (issues_in b) (omega (arith, receipt-to p l, h.size))
 
-    pub received_more : {tally : List ℕ} → tally ≡ block b (lots_row tally_at p) (get_or b issues_at 0) → length tally ≡ get_or b issues_at 0 → (part : List ℕ)
-        → length part ≡ length (take (get_or b issues_at 0 * p + get_or b issues_at 0 - get_or b issues_at 0 * p) (drop (get_or b issues_at 0 * p) c))
+    pub received_more : {tally : List ℕ} → tally ≡ block b (lots_row tally_at p) (issues_in b) → length tally ≡ issues_in b → (part : List ℕ)
+        → length part ≡ length (take (issues_in b * p + issues_in b - issues_in b * p) (drop (issues_in b * p) c))
         → ((i : ℕ) → i < length tally → get_or part i 0 ≡ plus (get_or tally i 0))
-        → Received b receipts (put_mid (get_or b issues_at 0 * p) (get_or b issues_at 0 * p + get_or b issues_at 0 - get_or b issues_at 0 * p) c part) (p + 1)
+        → Received b receipts (put_mid (issues_in b * p) (issues_in b * p + issues_in b - issues_in b * p) c part) (p + 1)
     received_more {tally} there long part e each =
-        filled-part receipts 0 (get_or b participants_at 0) (get_or b issues_at 0) (tally_rows b) tally-plus receipts-room l (omega arith) h part
+        filled-part receipts 0 (participants_in b) (issues_in b) (tally_rows b) tally-plus receipts-room l (omega arith) h part
         (made-of plus tally part (e ∙ part-long ∙ sym long) each ∙ ap (map plus) there ∙ tally-row p l)
 
-  pub received-all : {c : List ℕ} {p : ℕ} → get_or b participants_at 0 ≤ p → Received b receipts c p → c ≡ receipts_written b receipts
+  pub received-all : {c : List ℕ} {p : ℕ} → participants_in b ≤ p → Received b receipts c p → c ≡ receipts_written b receipts
   unfolding receipts_written
-  received-all l h = filled-all receipts 0 (get_or b participants_at 0) (get_or b issues_at 0) (tally_rows b) tally-plus receipts-room l h
+  received-all l h = filled-all receipts 0 (participants_in b) (issues_in b) (tally_rows b) tally-plus receipts-room l h
 
 -- ---- today's marks, basket by basket
 
 abbrev today_rows : List ℕ → List (List ℕ)
-today_rows b = map joined (cube b today_at (get_or b participants_at 0))
+today_rows b = map joined (cube b today_at (participants_in b))
 
 abbrev pub Covered : List ℕ → List ℕ → List ℕ → ℕ → Type 0
-Covered b pairs c k = Filled pairs 0 (get_or b participants_at 0 * get_or b participants_at 0) (today_rows b) c k
+Covered b pairs c k = Filled pairs 0 (participants_in b * participants_in b) (today_rows b) c k
 
 module _ (b pairs : List ℕ) (f : WritePairsAsks b pairs) where
-  pub square-small : get_or b participants_at 0 * get_or b participants_at 0 ≤ 144
+  pub square-small : participants_in b * participants_in b ≤ 144
   square-small = mul-le-mul f.few f.few
 
-  pairs-room : 0 + get_or b participants_at 0 * get_or b participants_at 0 * 7 ≤ length pairs
-  pairs-room = omega (arith, f.room, mul_comm (get_or b participants_at 0 * get_or b participants_at 0) 7)
+  pairs-room : 0 + participants_in b * participants_in b * 7 ≤ length pairs
+  pairs-room = omega (arith, f.room, mul_comm (participants_in b * participants_in b) 7)
 
-  square-shape : (k : ℕ) → k < 7 → Shape (grid b (mark_square today_at k) most_participants (get_or b participants_at 0) (get_or b participants_at 0)) (get_or b participants_at 0) (get_or b participants_at 0)
-  square-shape k l = grid-shape b (mark_square today_at k) most_participants (get_or b participants_at 0) (get_or b participants_at 0) f.few (omega (arith, f.size, f.few))
+  square-shape : (k : ℕ) → k < 7 → Shape (grid b (mark_square today_at k) most_participants (participants_in b) (participants_in b)) (participants_in b) (participants_in b)
+  square-shape k l = grid-shape b (mark_square today_at k) most_participants (participants_in b) (participants_in b) f.few (omega (arith, f.size, f.few))
 
-  today-row : (k : ℕ) → k < 7 → joined (grid b (mark_square today_at k) most_participants (get_or b participants_at 0) (get_or b participants_at 0)) ≡ row (today_rows b) k
+  today-row : (k : ℕ) → k < 7 → joined (grid b (mark_square today_at k) most_participants (participants_in b) (participants_in b)) ≡ row (today_rows b) k
   today-row k l =
-      let n : ℕ = get_or b participants_at 0 in
+      let n : ℕ = participants_in b in
       sym (get_d_map joined (cube b today_at n) k [] [] (omega (arith, length-table 7 (λ k. grid b (mark_square today_at k) most_participants n n)))
       ∙ ap joined (get_or-table 7 (λ k. grid b (mark_square today_at k) most_participants n n) k [] l))
 
-  today-shape : Shape (today_rows b) 7 (get_or b participants_at 0 * get_or b participants_at 0)
+  today-shape : Shape (today_rows b) 7 (participants_in b * participants_in b)
   today-shape =
-      let n : ℕ = get_or b participants_at 0 in
+      let n : ℕ = participants_in b in
       record {
         rows = length-map (cube b today_at n) joined ∙ length-table 7 (λ k. grid b (mark_square today_at k) most_participants n n);
         cells = λ k l. ap length (sym (today-row k l)) ∙ length-joined (grid b (mark_square today_at k) most_participants n n) n n (square-shape k l);
       }
 
   pub covered_none : Covered b pairs pairs 0
-  covered_none = filled_none pairs 0 7 (get_or b participants_at 0 * get_or b participants_at 0) (today_rows b) today-shape pairs-room
+  covered_none = filled_none pairs 0 7 (participants_in b * participants_in b) (today_rows b) today-shape pairs-room
 
   -- a basket's marks have their room on both sides
   pub covered-room : (c : List ℕ) (k : ℕ) {marks : List ℕ} → length marks ≡ square → length c ≡ length pairs → k < 7
-      → Copies c (get_or b participants_at 0 * get_or b participants_at 0 * k) (get_or b participants_at 0) (get_or b participants_at 0) (get_or b participants_at 0) marks 0 most_participants
+      → Copies c (participants_in b * participants_in b * k) (participants_in b) (participants_in b) (participants_in b) marks 0 most_participants
   covered-room c k long e l = record {
-    wide = le_refl (get_or b participants_at 0);
-    room = omega (arith, room-to pairs 0 7 (get_or b participants_at 0 * get_or b participants_at 0) (today_rows b) today-shape pairs-room k l, e);
+    wide = le_refl (participants_in b);
+    room = omega (arith, room-to pairs 0 7 (participants_in b * participants_in b) (today_rows b) today-shape pairs-room k l, e);
     source_wide = f.few;
     rows = omega (arith, long, f.few);
   }
 
   pub covered_more : {c : List ℕ} {k : ℕ} {marks : List ℕ} → marks ≡ block b (mark_square today_at k) square → k < 7 → Covered b pairs c k → (d : List ℕ)
-      → d ≡ written c (rows_at (get_or b participants_at 0 * get_or b participants_at 0 * k) (get_or b participants_at 0) (grid marks 0 most_participants (get_or b participants_at 0) (get_or b participants_at 0))) → Covered b pairs d (k + 1)
+      → d ≡ written c (rows_at (participants_in b * participants_in b * k) (participants_in b) (grid marks 0 most_participants (participants_in b) (participants_in b))) → Covered b pairs d (k + 1)
   covered_more {c} {k} {marks} there l h d e =
-      let n : ℕ = get_or b participants_at 0 in
+      let n : ℕ = participants_in b in
       let same : grid marks 0 most_participants n n ≡ grid b (mark_square today_at k) most_participants n n =
       ap (λ (x : List ℕ). grid x 0 most_participants n n) there ∙ grid-within b (mark_square today_at k) square most_participants n n (omega (arith, f.few)) f.few in
       let room : Copies c (n * n * k) n n n b (mark_square today_at k) most_participants = record {
@@ -194,14 +195,14 @@ module _ (b pairs : List ℕ) (f : WritePairsAsks b pairs) where
 
   pub covered-all : {c : List ℕ} {k : ℕ} → 7 ≤ k → Covered b pairs c k → c ≡ pairs_written b pairs
   unfolding pairs_written
-  covered-all l h = filled-all pairs 0 7 (get_or b participants_at 0 * get_or b participants_at 0) (today_rows b) today-shape pairs-room l h
+  covered-all l h = filled-all pairs 0 7 (participants_in b * participants_in b) (today_rows b) today-shape pairs-room l h
 
 -- ---- what the checks have shown to the writers
 
-pub receipts_fit : (b receipts : List ℕ) → SoundBook b → get_or b participants_at 0 * get_or b issues_at 0 ≤ length receipts → WriteReceiptsAsks b receipts
+pub receipts_fit : (b receipts : List ℕ) → SoundBook b → participants_in b * issues_in b ≤ length receipts → WriteReceiptsAsks b receipts
 receipts_fit b receipts s l = record { size = s.readable.size; few = s.sizes.few; most = s.sizes.most; room = l }
 
-pub pairs_fit : (b pairs : List ℕ) → SoundBook b → 7 * (get_or b participants_at 0 * get_or b participants_at 0) ≤ length pairs → WritePairsAsks b pairs
+pub pairs_fit : (b pairs : List ℕ) → SoundBook b → 7 * (participants_in b * participants_in b) ≤ length pairs → WritePairsAsks b pairs
 pairs_fit b pairs s l = record { size = s.readable.size; few = s.sizes.few; room = l }
 
 -- ---- what each return of a close shows
@@ -212,16 +213,16 @@ module _ (b receipts pairs : List ℕ) where
   few-runs e = search (answers, rules) depth 12
 
   module _ (r : 3 ≤ get_or b runs_at 0) where
-    pub short-receipts : length receipts < get_or b participants_at 0 * get_or b issues_at 0 → ◌≡◌ {A = Reply × (List ℕ × List ℕ)} (refused 15, (receipts, pairs)) (close_sound b receipts pairs)
+    pub short-receipts : length receipts < participants_in b * issues_in b → ◌≡◌ {A = Reply × (List ℕ × List ℕ)} (refused 15, (receipts, pairs)) (close_sound b receipts pairs)
     unfolding close_sound close_checks view
     short-receipts e = search (answers, rules) depth 12
 
-    module _ (l : get_or b participants_at 0 * get_or b issues_at 0 ≤ length receipts) where
-      pub short-pairs : length pairs < 7 * (get_or b participants_at 0 * get_or b participants_at 0) → ◌≡◌ {A = Reply × (List ℕ × List ℕ)} (refused 15, (receipts, pairs)) (close_sound b receipts pairs)
+    module _ (l : participants_in b * issues_in b ≤ length receipts) where
+      pub short-pairs : length pairs < 7 * (participants_in b * participants_in b) → ◌≡◌ {A = Reply × (List ℕ × List ℕ)} (refused 15, (receipts, pairs)) (close_sound b receipts pairs)
       unfolding close_sound close_checks view
       short-pairs e = search (answers, rules) depth 12
 
-      module _ (k : 7 * (get_or b participants_at 0 * get_or b participants_at 0) ≤ length pairs) where
+      module _ (k : 7 * (participants_in b * participants_in b) ≤ length pairs) where
         pub closed : (x y : List ℕ) → x ≡ receipts_written b receipts → y ≡ pairs_written b pairs → ◌≡◌ {A = Reply × (List ℕ × List ℕ)} (accepted, (x, y)) (close_sound b receipts pairs)
         unfolding close_sound close_checks view receipts_written pairs_written tomorrow_receipts tomorrow_pairs
         closed x y ex ey =

@@ -21,7 +21,8 @@ use Rattle.lists.proofs.PartLaws.{part_length, part-back}
 use Rattle.rule.specs.Day.{notice_row, noticed}
 use Rattle.rule.specs.Calls.{distinct}
 use Rattle.rule.specs.Sound.{notice_limit}
-use Rattle.rule.specs.Layout.{participants_at, runs_at, notices_at, view, stored, issues_at, lots_row}
+use Rattle.layout.specs.InBook.{participants_in, issues_in}
+use Rattle.rule.specs.Layout.{runs_at, notices_at, view, stored, lots_row}
 use Rattle.rule.proofs.AnswerLaws.{denied, granted}
 use Rattle.rule.proofs.BookLaws.{SoundBook}
 use Rattle.rule.proofs.NoticeLaws.{Noticeable, length-notice_row, notice-stored}
@@ -103,7 +104,7 @@ module _ (row₀ named lots : List ℕ) where
       h.entries ∙ ap₂ (λ (r : List ℕ) (n : ℕ). foldl (entry named lots) r (up_to n)) e k
 
 -- the row that was lent, and is back
-pub row_back : (b : List ℕ) (p m : ℕ) {at : ℕ} (issues lots c : List ℕ) → at ≡ lots_row notices_at p → m ≡ get_or b issues_at 0 → at + m ≤ length b
+pub row_back : (b : List ℕ) (p m : ℕ) {at : ℕ} (issues lots c : List ℕ) → at ≡ lots_row notices_at p → m ≡ issues_in b → at + m ≤ length b
     → c ≡ notice_row (length (take (at + m - at) (drop at b))) issues lots → put_mid at (at + m - at) b c ≡ notice_written b p issues lots
 unfolding notice_written
 row_back b p m {at} issues lots c place e fit h =
@@ -113,14 +114,14 @@ row_back b p m {at} issues lots c place e fit h =
 
 -- ---- an accepted notice, in a sound book
 
-module _ (b : List ℕ) (s : SoundBook b) (issues : List ℕ) (named : all_below (length issues) (λ j. ltb (get_or issues j 0) (get_or b issues_at 0)) ≡ true) where
-  of_day : (j : ℕ) → j < length issues → get_or issues j 0 < get_or b issues_at 0
-  of_day j l = ltb-true (get_or issues j 0) (get_or b issues_at 0) (all-at (λ j. ltb (get_or issues j 0) (get_or b issues_at 0)) (length issues) named j l)
+module _ (b : List ℕ) (s : SoundBook b) (issues : List ℕ) (named : all_below (length issues) (λ j. ltb (get_or issues j 0) (issues_in b)) ≡ true) where
+  of_day : (j : ℕ) → j < length issues → get_or issues j 0 < issues_in b
+  of_day j l = ltb-true (get_or issues j 0) (issues_in b) (all-at (λ j. ltb (get_or issues j 0) (issues_in b)) (length issues) named j l)
 
   pub markable : AllDistinctAsks 32 issues
   markable = record { below = λ j l. omega (arith, of_day j l, s.sizes.most) }
 
-  module _ (p : ℕ) (lots : List ℕ) (sender : p < get_or b participants_at 0) (even : length issues ≡ length lots) where
+  module _ (p : ℕ) (lots : List ℕ) (sender : p < participants_in b) (even : length issues ≡ length lots) where
     pub writable : WriteAsks b p issues lots
     writable = record {
       size = s.readable.size;

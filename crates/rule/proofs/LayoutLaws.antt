@@ -451,7 +451,8 @@ module _ (y : Day) (s : Shaped y) where
   reads-holds : (b : List ℕ) → length b ≡ book_length → Every (Reads b) (joined (tables_of y)) → Holds b y
   reads-holds b e h =
       let r : DayTables (Reads b) y = tables-of (Reads b) y h in
-      let head : get_or b participants_at 0 ∷ get_or b issues_at 0 ∷ get_or b runs_at 0 ∷ get_or b trades_at 0 ∷ [] ≡ n ∷ m ∷ y.state.runs ∷ y.state.trades ∷ [] = sym (four b (omega arith)) ∙ r.counts.0 in
+      let cells : List ℕ = get_or b participants_at 0 ∷ get_or b issues_at 0 ∷ get_or b runs_at 0 ∷ get_or b trades_at 0 ∷ [] in
+      let head : cells ≡ n ∷ m ∷ y.state.runs ∷ y.state.trades ∷ [] = sym (four b (omega arith)) ∙ r.counts.0 in
       record {
         participants = ap (λ (l : List ℕ). get_or l 0 0) head;
         issues = ap (λ (l : List ℕ). get_or l 1 0) head;

@@ -17,7 +17,8 @@ use Rattle.lists.specs.Parts.{over}
 use Rattle.lists.proofs.TestLaws.{go, stop}
 use Rattle.rule.specs.Run.{allocations, ran, match_list, line_list}
 use Rattle.rule.specs.Calls.{Reply, counts, refused, each_once, run_checks, run_reply}
-use Rattle.rule.specs.Layout.{participants_at, runs_at, view, stored}
+use Rattle.layout.specs.InBook.{participants_in}
+use Rattle.rule.specs.Layout.{runs_at, view, stored}
 use Rattle.rule.proofs.AnswerLaws.{answers}
 use Rattle.rule.proofs.BookLaws.{SoundBook}
 use Rattle.rule.proofs.DrawLaws.{draw-right}
@@ -62,11 +63,11 @@ module _ (b draw matches lines : List ℕ) where
   three-done e = search (answers, rules) depth 12
 
   module _ (r : get_or b runs_at 0 < 3) where
-    pub wrong-draw : each_once draw (get_or b participants_at 0) ≡ false → ◌≡◌ {A = Answer} (refused 14, (b, matches, lines)) (run_sound b draw matches lines)
+    pub wrong-draw : each_once draw (participants_in b) ≡ false → ◌≡◌ {A = Answer} (refused 14, (b, matches, lines)) (run_sound b draw matches lines)
     unfolding run_sound run_checks view
     wrong-draw e = search (answers, rules) depth 12
 
-    module _ (d : each_once draw (get_or b participants_at 0) ≡ true) where
+    module _ (d : each_once draw (participants_in b) ≡ true) where
       pub short-matches : length matches < 539 → ◌≡◌ {A = Answer} (refused 15, (b, matches, lines)) (run_sound b draw matches lines)
       unfolding run_sound run_checks view
       short-matches e = search (answers, rules) depth 12
@@ -79,7 +80,7 @@ module _ (b draw matches lines : List ℕ) where
         module _ (l : 7392 ≤ length lines) where
           pub run-asks : SoundBook b → RunAsks b draw matches lines
           unfolding view
-          run-asks s = record { book = s; runs = r; once = draw-right (get_or b participants_at 0) draw d; match_places = m; line_places = l }
+          run-asks s = record { book = s; runs = r; once = draw-right (participants_in b) draw d; match_places = m; line_places = l }
 
           -- what was left, as one
           all_left : {c x z : List ℕ} {i j : ℕ} → RunGives b draw matches lines c x z i j

@@ -11,7 +11,7 @@ use Rattle.lists.specs.Tables.{table}
 use Rattle.lists.proofs.PartLaws.{table-agree}
 use Rattle.rule.specs.Baskets.{within}
 use Rattle.rule.specs.Run.{Allocation, basket_plan}
-use Rattle.rule.specs.Layout.{issues_at, view, row_cell, most_issues}
+use Rattle.rule.specs.Layout.{view, row_cell, most_issues}
 use Rattle.rule.proofs.BookLaws.{SoundBook}
 use Rattle.matching.specs.Plans.{rule_match, Planned}
 use Rattle.matching.specs.declared.Match.{Match as Entry}
@@ -39,12 +39,12 @@ module _ (k : ℕ) (b draw : List ℕ) (stock : Stock) (orders : List (ArrayVec 
   booked = s.begun.running.booked
 
   abbrev n : ℕ
-  n = get_or b issues_at 0
+  n = issues_in b
 
   same : issues_in b ≡ issues_in b₀
   same = issues-kept b₀ sound done b booked
 
-  pub issues_most : get_or b issues_at 0 ≤ most_issues
+  pub issues_most : issues_in b ≤ most_issues
   issues_most = omega (arith, same, sound.sizes.most)
 
   -- ---- the plan
@@ -55,10 +55,10 @@ module _ (k : ℕ) (b draw : List ℕ) (stock : Stock) (orders : List (ArrayVec 
   -- ---- the issues of the basket
 
   abbrev places : ℕ
-  places = length (take (get_or b issues_at 0) (replicate most_issues false))
+  places = length (take (issues_in b) (replicate most_issues false))
 
   places-are : places ≡ n
-  places-are = length-take-le (get_or b issues_at 0) (replicate most_issues false) (omega (arith, issues_most, length-replicate most_issues false))
+  places-are = length-take-le (issues_in b) (replicate most_issues false) (omega (arith, issues_most, length-replicate most_issues false))
 
   -- ---- the matches
 

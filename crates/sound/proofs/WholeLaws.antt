@@ -11,9 +11,9 @@ use Rattle.lists.proofs.TableLaws.{get_or-table}
 use Rattle.lists.proofs.PartLaws.{grid-get}
 use Rattle.rule.specs.Day.{baskets, term_size}
 use Rattle.rule.specs.Sound.{sound, sizes_fit, receipts_fit, at_most, pairs_fit, tradable, position_limit, notice_limit, tally_limit, trade_limit}
-use Rattle.rule.specs.Layout.{issues_at, participants_at, runs_at, trades_at, book_length, terms_at, receipts_at, pairs_at, positions_at, notices_at, today_at, tally_at, plus, minus, cube, view, book_fits, sound_book, most_issues, most_participants, position_row}
+use Rattle.rule.specs.Layout.{runs_at, trades_at, book_length, terms_at, receipts_at, pairs_at, positions_at, notices_at, today_at, tally_at, plus, minus, cube, view, book_fits, sound_book, most_issues, most_participants, position_row}
 use Rattle.ranges.specs.Ranges.{row_passes, terms_in_range}
-use Rattle.layout.specs.InBook.{book_terms, book_marks}
+use Rattle.layout.specs.InBook.{book_terms, book_marks, participants_in, issues_in}
 use Rattle.sound.specs.Sized.{Sized, is_within, while_runs, basket_fits, positions_fit, tally_fits, codes_fit, given_fits, state_within, state_fits}
 use Rattle.ranges.proofs.ScanLaws.{all-and}
 
@@ -110,10 +110,10 @@ module _ (b : List ℕ) (at stride n m : ℕ) where
 
 module _ (b : List ℕ) where
   abbrev n : ℕ
-  n = get_or b participants_at 0
+  n = participants_in b
 
   abbrev m : ℕ
-  m = get_or b issues_at 0
+  m = issues_in b
 
   abbrev runs : ℕ
   runs = get_or b runs_at 0
@@ -184,7 +184,7 @@ module _ (b : List ℕ) where
       ∙ ap (λ (t : Bool). holds (sizes_fit n m ∷ given_fits b ∷ t ∷ [])) state-there)
 
 -- the tests of a book whose day has n participants and m issues
-module _ (b : List ℕ) (n m : ℕ) (e : n ≡ get_or b participants_at 0) (f : m ≡ get_or b issues_at 0) where
+module _ (b : List ℕ) (n m : ℕ) (e : n ≡ participants_in b) (f : m ≡ issues_in b) where
   pub given_is : given_fits b
       ≡ (codes_fit b
       && (terms_in_range m (grid b terms_at term_size m term_size)
@@ -200,18 +200,18 @@ module _ (b : List ℕ) (n m : ℕ) (e : n ≡ get_or b participants_at 0) (f : 
   unfolding state_fits state_within holds
   state_is runs lots yen r l y = rw (e, f, l, y, r) (simp and-true)
 
-pub sound_is : (b : List ℕ) → sound_book b ≡ (eqb (length b) book_length && (sizes_fit (get_or b participants_at 0) (get_or b issues_at 0) && (given_fits b && state_fits b)))
+pub sound_is : (b : List ℕ) → sound_book b ≡ (eqb (length b) book_length && (sizes_fit (participants_in b) (issues_in b) && (given_fits b && state_fits b)))
 unfolding book_fits holds
 sound_is b = sound-is b ∙ simp and-true
 
 -- a book of its length whose sizes fit
-pub sized : (b : List ℕ) → length b ≡ book_length → sizes_fit (get_or b participants_at 0) (get_or b issues_at 0) ≡ true → Sized b
+pub sized : (b : List ℕ) → length b ≡ book_length → sizes_fit (participants_in b) (issues_in b) ≡ true → Sized b
 unfolding sizes_fit
 sized b e h =
-    let k : leb 2 (get_or b participants_at 0) && leb (get_or b participants_at 0) 12 && leb 1 (get_or b issues_at 0) ≡ true = and_left _ (leb (get_or b issues_at 0) 32) h in
-    let p : leb 2 (get_or b participants_at 0) && leb (get_or b participants_at 0) 12 ≡ true = and_left _ (leb 1 (get_or b issues_at 0)) k in
+    let k : leb 2 (participants_in b) && leb (participants_in b) 12 && leb 1 (issues_in b) ≡ true = and_left _ (leb (issues_in b) 32) h in
+    let p : leb 2 (participants_in b) && leb (participants_in b) 12 ≡ true = and_left _ (leb 1 (issues_in b)) k in
     record {
       cells = e;
-      participants = leb-true _ _ (and_right (leb 2 (get_or b participants_at 0)) _ p);
-      issues = leb-true _ _ (and_right (leb 2 (get_or b participants_at 0) && leb (get_or b participants_at 0) 12 && leb 1 (get_or b issues_at 0)) _ h);
+      participants = leb-true _ _ (and_right (leb 2 (participants_in b)) _ p);
+      issues = leb-true _ _ (and_right (leb 2 (participants_in b) && leb (participants_in b) 12 && leb 1 (issues_in b)) _ h);
     }

@@ -4,7 +4,8 @@ use Rattle.lists.specs.Tables.{cell}
 use Rattle.rule.specs.Day.{traded}
 use Rattle.rule.specs.Calls.{afterwards}
 use Rattle.rule.specs.Sound.{tradable, position_limit, trade_limit}
-use Rattle.rule.specs.Layout.{participants_at, trades_at, position_cell, plus, minus, view, stored}
+use Rattle.layout.specs.InBook.{participants_in}
+use Rattle.rule.specs.Layout.{trades_at, position_cell, plus, minus, view, stored}
 use Rattle.rule.proofs.LayoutLaws.{Readable, plus-signed, minus-signed}
 use Rattle.rule.proofs.BookLaws.{SoundBook, view-owed, view-due}
 use Rattle.rule.proofs.TradeLaws.{Tradeable}
@@ -34,7 +35,7 @@ bought_of c x w m =
 
 -- ---- a position of a sound book
 
-module _ (b : List ℕ) (s : SoundBook b) (k p at yen : ℕ) (basket : k < 7) (participant : p < get_or b participants_at 0) (place : at ≡ position_cell k p) where
+module _ (b : List ℕ) (s : SoundBook b) (k p at yen : ℕ) (basket : k < 7) (participant : p < participants_in b) (place : at ≡ position_cell k p) where
   abbrev c : ℕ
   c = get_or b at 0
 
@@ -68,11 +69,11 @@ not-over limit r t e h = le-ltb limit t (omega arith)
 -- ---- an accepted trade, in a sound book
 
 module _ (b : List ℕ) (s : SoundBook b) (seller buyer k yen : ℕ) (h : Tradeable (view b) seller buyer k yen) (l : yen ≤ 1000000000000) where
-  sells : seller < get_or b participants_at 0
+  sells : seller < participants_in b
   unfolding view
   sells = h.sells
 
-  buys : buyer < get_or b participants_at 0
+  buys : buyer < participants_in b
   unfolding view
   buys = h.buys
 

@@ -4,7 +4,8 @@ use Rattle.lists.proofs.TestLaws.{said-no, said-yes, all-listed}
 use Rattle.rule.specs.Calls.{distinct, notice_checks}
 use Rattle.rule.specs.Sound.{notice_limit}
 use Rattle.rule.specs.Day.{noticed}
-use Rattle.rule.specs.Layout.{issues_at, view, stored}
+use Rattle.layout.specs.InBook.{issues_in}
+use Rattle.rule.specs.Layout.{view, stored}
 use Rattle.lists.specs.Tests.{all_below}
 use Rattle.rule.proofs.AnswerLaws.{answers}
 use Rattle.notice.specs.Checked.{notice_sound}
@@ -21,7 +22,7 @@ lengths : (c : After-all_of_day) → eqb (length c.args.self.now.named.now) (len
 lengths c = eq-eqb _ _ c.if-self.false
 
 abbrev OfDay : List ℕ → List ℕ → Bool
-OfDay named b = all_below (length named) (λ j. ltb (get_or named j 0) (get_or b issues_at 0))
+OfDay named b = all_below (length named) (λ j. ltb (get_or named j 0) (issues_in b))
 
 of_day : (c : After-all_distinct) → OfDay c.args.self.now.named.now c.args.book.now ≡ true
 of_day c = said-yes _ _ (c.all_of_day.ensures ∙ all-listed _ _) c.if-not-all_of_day.false

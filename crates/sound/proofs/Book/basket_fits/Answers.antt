@@ -1,10 +1,10 @@
-use Rattle.std.proofs.Common.{◌≡◌, ℕ, ◌+◌, ◌≤◌, ◌&&◌, ◌||◌, eqb, List, length, get_or, sym, arith}
+use Rattle.std.proofs.Common.{◌≡◌, ℕ, ◌+◌, ◌≤◌, ◌&&◌, ◌||◌, eqb, List, length, sym, arith}
 use Rattle.std.proofs.lemmas.Bool.Decides.{nat_tests}
 use Rattle.std.proofs.lemmas.Grind.{common_steps}
 use Rattle.lists.proofs.TestLaws.{said-no, said-yes}
-use Rattle.rule.specs.Layout.{participants_at, position_row}
+use Rattle.rule.specs.Layout.{position_row}
 use Rattle.rule.specs.Sound.{tradable}
-use Rattle.layout.specs.InBook.{book_terms, book_marks}
+use Rattle.layout.specs.InBook.{book_terms, book_marks, participants_in}
 use Rattle.sound.specs.Sized.{basket_fits}
 use Rattle.sound.proofs.SoundLaws.{Summed, summed-none, summed-more, basket-stop, basket-sums}
 use Rattle.sound.proofs.Book.basket_fits.Goals.{After-positions-cell-items}
@@ -15,7 +15,7 @@ sums : (c : After-positions-cell-items) {owed due p : ℕ} → Summed c.args.lim
     → length c.positions-cell-items.result.now ≤ p
     → let b : List ℕ = c.args.self.now.cells.now in
     let k : ℕ = c.args.basket in
-    basket_fits b c.args.limit.most (get_or b participants_at 0) k (position_row k) ≡ (eqb owed due && (eqb (owed + due) 0 || tradable k (book_terms b) (book_marks b)))
+    basket_fits b c.args.limit.most (participants_in b) k (position_row k) ≡ (eqb owed due && (eqb (owed + due) 0 || tradable k (book_terms b) (book_marks b)))
 sums c = basket-sums _ _ _ c.args.basket _ (omega arith) c.positions-cell-items.ensures.cells _ (sym c.args.self.now.participants_are)
 
 pub loop-cell-init : goal.loop-cell-init
