@@ -8,7 +8,8 @@ crates/rule/specs/<file>.antt (or crates/lists/specs, for `lists/<file>`, and so
 gives the same answers on every day, and is there to say so. A name that `new` needs is added to the file's imports.
 
 With --examples the laws and demands are left out of the copy, and so the worked days, which rest on laws: what remains to refuse a definition
-is the examples, by computation. Without it all of crates/rule is proved, and then crates/claims, which is not reached where rule refuses.
+is the examples, by computation. Without it all is proved. In the copy the claims stand in crates/rule, as one crate: so what is told has the
+claims and theorems that refuse a definition beside the laws and examples of the rule that do.
 
 Writes a line for each: its name, what came of it, the files in which something was not proved, the first error. Ends with 1 if one that is
 not `same:` was admitted, or if one is no definition at all.
@@ -34,27 +35,33 @@ def wrong_definitions():
         crate, file = file.split("/") if "/" in file else ("rule", file)
         same = texts[1].startswith("same: ")
         texts[1] = texts[1].removeprefix("same: ")
-        yield name, f"crates/{crate}/specs/{file}.antt", list(zip(texts[::2], texts[1::2])), same
+        yield name, f"crates/{crate.replace('claims', 'rule')}/specs/{file}.antt", list(zip(texts[::2], texts[1::2])), same
 
 
 def copy(to, examples):
     os.makedirs(f"{to}/crates")
-    for crate in ("lists", "rule", "claims"):
-        shutil.copytree(f"{ROOT}/crates/{crate}", f"{to}/crates/{crate}", ignore=shutil.ignore_patterns("must-fail", "target"))
+    for crate in ("lists", "rule"):
+        shutil.copytree(f"{ROOT}/crates/{crate}", f"{to}/crates/{crate}", ignore=shutil.ignore_patterns("must-fail", "target", "out"))
     with open(f"{to}/crates.txt", "w") as file:
-        file.write("lists:\nrule: lists\nclaims: rule lists\n")
-    for crate in ("rule", "claims") if examples else ():
-        proofs = f"{to}/crates/{crate}/proofs"
+        file.write("lists:\nrule: lists\n")
+    for part in ("specs", "proofs"):
+        for f in os.listdir(f"{ROOT}/crates/claims/{part}"):
+            with open(f"{ROOT}/crates/claims/{part}/{f}", encoding="utf-8") as file:
+                text = file.read().replace("Rattle.claims.", "Rattle.rule.")
+            with open(f"{to}/crates/rule/{part}/{f}", "a" if f == "Lib.antt" else "w", encoding="utf-8") as file:
+                file.write(text)
+    if examples:
+        proofs = f"{to}/crates/rule/proofs"
         kept = {f[:-5] for f in os.listdir(proofs) if f.endswith("Examples.antt")} | EXAMPLES
         for f in os.listdir(proofs):
             if f.endswith(".antt") and f[:-5] not in kept | {"Lib"}:
                 os.remove(f"{proofs}/{f}")
         with open(f"{proofs}/Lib.antt", "w") as file:
-            file.writelines(f"pub mod {module}\n" for module in sorted(kept) if os.path.exists(f"{proofs}/{module}.antt"))
+            file.writelines(f"pub mod {module}\n" for module in sorted(kept))
 
 
 def check(at):
-    run = subprocess.run(["rt", "check"], cwd=f"{at}/crates/claims", capture_output=True, text=True)
+    run = subprocess.run(["rt", "check"], cwd=f"{at}/crates/rule", capture_output=True, text=True)
     return run.stdout + run.stderr
 
 
