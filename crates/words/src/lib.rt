@@ -41,17 +41,3 @@ pub fn number(word: &[u8]) -> Option<u64>
     }
     word.parse().ok()
 }
-
-#[cfg(test)]
-mod tests {
-    use super::*;
-    use std::test::Fail;
-
-    #[test]
-    fn words_between_blanks(rt: HostRuntime) -> Result<(), Fail> {
-        let words = split(rt.alloc(), b"\tno  end\r", b" \t\r")?;
-        let expected = vec![in rt.alloc(); b"no".as_slice(), b"end".as_slice()]?;
-        assert_eq!(rt; words, expected);
-        Ok(())
-    }
-}

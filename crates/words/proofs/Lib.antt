@@ -1,0 +1,2 @@
+-- Examples that a reader checks by hand.
+mod WordExamples
