@@ -8,6 +8,7 @@ use Rattle.words.specs.Lines.{IsNumber}
 use Rattle.day_words.specs.Named.{AreEntries, IsLetter}
 use Rattle.opening_data.specs.Gathered.{opening_of}
 use Rattle.opening_data.specs.declared.OpeningData.{OpeningData}
+use Rattle.day_lines.specs.declared.calls.TradeCall.{TradeCall}
 use Rattle.day_lines.specs.declared.failure.Failure.{Failure}
 use Rattle.day_lines.specs.declared.failure.Failure.TheVariants.{Unread, Refused, Unwritten}
 
@@ -26,14 +27,20 @@ UnreadKeeps (Err (Refused _)) old new = ⊤
 UnreadKeeps (Err Unwritten) old new = ⊤
 
 -- "trade SELLER BUYER BASKET YEN"
-pub record Trades (words : List (List ℕ)) (old new : List ℕ) (reply : Reply) : Type 0 where
+pub record TradeLine (words : List (List ℕ)) (trade : TradeCall) : Type 0 where
   pub seller : List ℕ
   pub buyer : List ℕ
   pub basket : List ℕ
   pub yen : List ℕ
   pub parts : words ≡ seller ∷ buyer ∷ basket ∷ yen ∷ []
-  pub read : IsNumber seller × IsNumber buyer × IsLetter basket × IsNumber yen
-  pub called : (reply, new) ≡ trade_of old (digits_value 10 seller) (digits_value 10 buyer) (slice_index basket 0 - 65) (digits_value 10 yen)
+  pub numbers : IsNumber seller × IsNumber buyer × IsLetter basket × IsNumber yen
+  pub is : trade ≡ record { seller = digits_value 10 seller; buyer = digits_value 10 buyer; basket = slice_index basket 0 - 65; yen = record { 0 = digits_value 10 yen } }
+
+-- the call that such a line makes
+pub record Trades (words : List (List ℕ)) (old new : List ℕ) (reply : Reply) : Type 0 where
+  pub trade : TradeCall
+  pub read : TradeLine words trade
+  pub called : (reply, new) ≡ trade_of old trade.seller trade.buyer trade.basket trade.yen.0
 
 -- "open": no words
 pub record Opens (gathered : OpeningData) (words : List (List ℕ)) (old new : List ℕ) (reply : Reply) : Type 0 where

@@ -1,16 +1,16 @@
 // The lines, a function each.
 ghost use Rattle.rule.specs.Layout.{book_length};
-ghost use Rattle.std.specs.Prelude.{◌≡◌, length};
+ghost use Rattle.std.specs.Prelude.{◌≡◌, length, IfOk};
 ghost use Rattle.words.specs.Lines.{words_left};
 ghost use Rattle.day_words.specs.Named.{codes_in, codes_of_book};
-ghost use Rattle.day_lines.specs.Answered.{Answers, UnreadKeeps, Opens, Trades, Notices};
+ghost use Rattle.day_lines.specs.Answered.{Answers, UnreadKeeps, Opens, TradeLine, Trades, Notices};
 
 use crate::failure::Failure;
 use day_words::{Codes, codes_of, entries, next_basket};
 use layout::{MOST_ISSUES, MOST_PARTICIPANTS};
 use opening_data::OpeningData;
 use quantities::Yen;
-use words::Line;
+use words::{Line, Unread};
 
 // the entries of a notice or the participants of a draw that there is room for, more than a day has
 const ROOM: usize = 64;
@@ -30,15 +30,41 @@ pub fn open<'a>(
     Ok(())
 }
 
-// "trade SELLER BUYER BASKET YEN"
-pub fn trade<'a>(rt: &impl Print, book: &mut [u64], mut line: Line<'a>) -> Result<(), Failure<'a>>
-    ensures { Answers result (Trades (words_left line.entry) book.old book.new) book.old book.new }
+// What a line "trade" names.
+#[derive(Drop)]
+pub struct TradeCall {
+    pub seller: u64,
+    pub buyer: u64,
+    pub basket: u64,
+    pub yen: Yen,
+}
+
+fn read_trade<'a>(mut line: Line<'a>) -> Result<TradeCall, Unread<'a>>
+    ensures { IfOk result (λ trade. TradeLine (words_left line.entry) trade) }
 {
     let seller = line.number("seller")?;
     let buyer = line.number("buyer")?;
     let basket = next_basket(&mut line)?;
     let yen = Yen(line.number("yen")?);
     line.end()?;
+    Ok(TradeCall {
+        seller,
+        buyer,
+        basket,
+        yen,
+    })
+}
+
+// "trade SELLER BUYER BASKET YEN"
+pub fn trade<'a>(rt: &impl Print, book: &mut [u64], line: Line<'a>) -> Result<(), Failure<'a>>
+    ensures { Answers result (Trades (words_left line.entry) book.old book.new) book.old book.new }
+{
+    let TradeCall {
+        seller,
+        buyer,
+        basket,
+        yen,
+    } = read_trade(line)?;
     allocation::trade(book, seller, buyer, basket, yen)?;
     println!(rt; "traded")?;
     Ok(())
