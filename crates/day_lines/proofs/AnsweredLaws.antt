@@ -2,6 +2,7 @@
 use Rattle.std.specs.Prelude.{◌≡◌, ℕ, List, Result, Ok, Err, IsErrAnd}
 use mathlib.Core.Path.{sym, subst}
 use Rattle.rule.specs.Calls.{Reply, accepted, refused}
+use Rattle.rule.specs.Layout.{notice_of}
 use Rattle.reply.specs.declared.Refusal.{Refusal}
 use Rattle.reply.specs.Answers.{number_of}
 use Rattle.day_lines.specs.Answered.{Answers}
@@ -17,3 +18,8 @@ pub answer-unwritten : (result : Result Unit Failure) (Calls : Reply → Type 0)
   IsErrAnd result (λ failure. failure ≡ Unwritten) → Calls accepted → Answers result Calls old new
 answer-unwritten (Ok _) Calls old new is called = elim is [ ]
 answer-unwritten (Err failure) Calls old new is called = subst (λ (f : Failure). Answers (Err f) Calls old new) (sym is) called
+
+-- a notice's call on the numbers that its words are
+pub noticed-with : (reply : Reply) (old new : List ℕ) (p q : ℕ) (a b c d : List ℕ) →
+  (reply, new) ≡ notice_of old p a c → p ≡ q → a ≡ b → c ≡ d → (reply, new) ≡ notice_of old q b d
+noticed-with reply old new p q a b c d called is-p is-a is-c = search
