@@ -1,2 +1,3 @@
--- Examples that a reader checks by hand.
+-- Laws that the lines' proofs cite, and examples.
+pub mod ReadLaws
 mod WordExamples

@@ -1,0 +1,2 @@
+-- Laws that the lines' proofs cite.
+mod GatheredLaws
