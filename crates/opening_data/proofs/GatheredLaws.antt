@@ -1,5 +1,5 @@
 -- What a line gathers, said of the numbers that its words are.
-use Rattle.std.specs.Prelude.{◌≡◌, ◌+◌, ◌*◌, ◌-◌, ℕ, List, slice_set}
+use Rattle.std.specs.Prelude.{◌≡◌, ◌+◌, ◌*◌, ℕ, slice_set}
 use Rattle.opening_data.specs.Gathered.{empty}
 use Rattle.opening_data.specs.declared.OpeningData.{OpeningData}
 

@@ -1,10 +1,10 @@
 -- What a line that is read gathers. Assumes nothing.
-use Rattle.std.specs.Prelude.{◌≡◌, ◌+◌, ◌*◌, ◌<◌, ℕ, List, [], ◌∷◌, ◌-◌, length, map, min, replicate, slice_index, slice_range, slice_set}
+use Rattle.std.specs.Prelude.{◌≡◌, ◌+◌, ◌*◌, ◌<◌, ℕ, List, [], ◌∷◌, ◌-◌, length, min, replicate, slice_index, slice_range, slice_set}
 use Rattle.std.specs.Str.Parse.{digits_value}
 use Rattle.rule.specs.Day.{baskets, code_size, term_size}
 use Rattle.rule.specs.Calls.{Reply}
 use Rattle.rule.specs.Layout.{open_of, most_issues, lots_size, square}
-use Rattle.words.specs.Lines.{IsNumber}
+use Rattle.words.specs.Lines.{IsNumber, TakesNumbers}
 use Rattle.day_words.specs.Named.{IsLetter, Names, codes_in}
 use Rattle.opening_data.specs.declared.OpeningData.{OpeningData}
 
@@ -42,18 +42,24 @@ pub record DayLine (words : List (List ℕ)) (old new : OpeningData) : Type 0 wh
   pub numbers : IsNumber participants × IsNumber issues
   pub gathered : new ≡ empty (digits_value 10 participants) (digits_value 10 issues)
 
--- "issue CODE KIND PRICE COUPON DAYS REDEEMED INTEREST": one more is listed
-pub record IssueLine (words : List (List ℕ)) (old new : OpeningData) : Type 0 where
-  pub code : List ℕ
-  pub terms : List (List ℕ)
-  pub parts : words ≡ code ∷ terms
-  pub lengths : (length code ≡ 12) × (length terms ≡ 6)
+-- one more issue is listed, behind those that are
+pub record Listed (code terms : List ℕ) (old new : OpeningData) : Type 0 where
   pub room : old.listed < most_issues
   pub gathered : new ≡ record old { listed = old.listed + 1; codes = new.codes; terms = new.terms }
   pub earlier_codes : slice_range new.codes 0 (code_size * old.listed) ≡ slice_range old.codes 0 (code_size * old.listed)
   pub earlier_terms : slice_range new.terms 0 (term_size * old.listed) ≡ slice_range old.terms 0 (term_size * old.listed)
   pub code_kept : slice_range new.codes (code_size * old.listed) (code_size * old.listed + code_size) ≡ code
-  pub terms_kept : slice_range new.terms (term_size * old.listed) (term_size * old.listed + term_size) ≡ map (digits_value 10) terms
+  pub terms_kept : slice_range new.terms (term_size * old.listed) (term_size * old.listed + term_size) ≡ terms
+
+-- "issue CODE KIND PRICE COUPON DAYS REDEEMED INTEREST"
+pub record IssueLine (words : List (List ℕ)) (old new : OpeningData) : Type 0 where
+  pub code : List ℕ
+  pub terms : List ℕ
+  pub rest : List (List ℕ)
+  pub parts : words ≡ code ∷ rest
+  pub read : TakesNumbers terms rest []
+  pub lengths : (length code ≡ 12) × (length terms ≡ 6)
+  pub listed : Listed code terms old new
 
 -- "receipt PARTICIPANT ISSUE LOTS": the lots stand by participant, then issue
 pub record ReceiptLine (words : List (List ℕ)) (old new : OpeningData) : Type 0 where

@@ -1,10 +1,10 @@
 // What an opening is given, gathered line by line until `open` makes the call. The comments quote docs/DAYFILE.md.
 #![tactic(auto)]
 
-ghost use Rattle.std.specs.Prelude.{◌≡◌, ◌+◌, ◌*◌, ◌<◌, ◌≤◌, min, length, slice_range, OnErr, OnOk};
+ghost use Rattle.std.specs.Prelude.{◌≡◌, ◌+◌, ◌*◌, ◌<◌, ◌≤◌, min, length, slice_range, IfOk, OnErr, OnOk};
 ghost use Rattle.reply.specs.Answers.{told};
-ghost use Rattle.words.specs.Lines.{words_left};
-ghost use Rattle.opening_data.specs.Gathered.{empty, opening_of, DayLine, IssueLine, ReceiptLine, PairLine};
+ghost use Rattle.words.specs.Lines.{words_left, TakesNumbers};
+ghost use Rattle.opening_data.specs.Gathered.{empty, opening_of, DayLine, Listed, IssueLine, ReceiptLine, PairLine};
 ghost use Rattle.rule.specs.Day.{baskets, code_size};
 ghost use Rattle.rule.specs.Layout.{most_participants, most_issues, lots_size, square};
 
@@ -51,6 +51,20 @@ fn pair_place(participants: usize, basket: usize, deliverer: usize, receiver: us
     row * participants + receiver
 }
 
+// "KIND PRICE COUPON DAYS REDEEMED INTEREST"
+fn next_terms<'a>(line: &mut Line<'a>) -> Result<[u64; TERM], Unread<'a>>
+    ensures { IfOk result (λ terms. TakesNumbers terms (words_left line.old) (words_left line.new)) }
+{
+    Ok([
+        line.number("kind")?,
+        line.number("price")?,
+        line.number("coupon")?,
+        line.number("days")?,
+        line.number("redeemed")?,
+        line.number("interest")?,
+    ])
+}
+
 impl OpeningData {
     pub fn new(participants: u64, issues: u64) -> OpeningData
         ensures { result ≡ empty participants issues }
@@ -78,6 +92,24 @@ impl OpeningData {
         Ok(())
     }
 
+    // One more issue, behind those that are listed.
+    fn list<'a>(&mut self, code: &[u8], terms: &[u64; TERM]) -> Result<(), Unread<'a>>
+        requires { length code.now ≡ code_size }
+        ensures listed { OnOk result (Listed code.now terms.now self.old self.new) }
+        ensures unlisted { OnErr result (self.new ≡ self.old) }
+    {
+        let i = self.listed;
+        if i >= MOST_ISSUES {
+            return Err(Unread::NoRoom(MOST_ISSUES, "issues"));
+        }
+        let codes = &mut self.codes[CODE * i..CODE * i + CODE];
+        codes.copy_from_slice(code);
+        let rows = &mut self.terms[TERM * i..TERM * i + TERM];
+        rows.copy_from_slice(terms);
+        self.listed = i + 1;
+        Ok(())
+    }
+
     // "issue CODE KIND PRICE COUPON DAYS REDEEMED INTEREST"
     pub fn issue<'a>(&mut self, mut line: Line<'a>) -> Result<(), Unread<'a>>
         ensures read { OnOk result (IssueLine (words_left line.entry) self.old self.new) }
@@ -87,25 +119,9 @@ impl OpeningData {
         if code.len() != CODE {
             return Err(Unread::Expected("code of 12 characters", Found::Word(code)));
         }
-        let terms = [
-            line.number("kind")?,
-            line.number("price")?,
-            line.number("coupon")?,
-            line.number("days")?,
-            line.number("redeemed")?,
-            line.number("interest")?,
-        ];
+        let terms = next_terms(&mut line)?;
         line.end()?;
-        let i = self.listed;
-        if i >= MOST_ISSUES {
-            return Err(Unread::NoRoom(MOST_ISSUES, "issues"));
-        }
-        let codes = &mut self.codes[CODE * i..CODE * i + CODE];
-        codes.copy_from_slice(code);
-        let rows = &mut self.terms[TERM * i..TERM * i + TERM];
-        rows.copy_from_slice(&terms);
-        self.listed = i + 1;
-        Ok(())
+        self.list(code, &terms)
     }
 
     // The codes of the issues that are listed.

@@ -1,5 +1,6 @@
 -- What the words of a line are read as, one after the other. Assumes nothing.
-use Rattle.std.specs.Prelude.{◌≡◌, ℕ, ◌^◌, ◌<◌, List, ◌∷◌, map, ⊤}
+use Rattle.std.specs.Prelude.{◌≡◌, ℕ, ◌^◌, ◌<◌, List, ◌∷◌, ◌++◌, map, ⊤}
+use Rattle.std.specs.List.{All}
 use Rattle.std.specs.Str.Parse.{IsNumeral, digits_value}
 use Rattle.words.specs.declared.line.Line.{Line}
 use Rattle.words.specs.declared.unread.Unread.{Unread}
@@ -19,6 +20,13 @@ pub record Takes (P : List ℕ → Type 0) (words left : List (List ℕ)) : Type
   pub word : List ℕ
   pub parts : words ≡ word ∷ left
   pub right : P word
+
+-- the first of the words are these numbers, and the others are left
+pub record TakesNumbers (numbers : List ℕ) (words left : List (List ℕ)) : Type 0 where
+  pub named : List (List ℕ)
+  pub parts : words ≡ named ++ left
+  pub right : All IsNumber named
+  pub values : numbers ≡ map (digits_value 10) named
 
 -- there is no first word, or it is not as P says
 abbrev pub LacksFirst : (List ℕ → Type 0) → List (List ℕ) → Type 0
