@@ -13,9 +13,10 @@ pub no-number : {words : List (List ℕ)} → TakesNumbers [] words words
 no-number = record { named = []; parts = refl; right = All-nil IsNumber; values = refl }
 
 pub number-first : {n : ℕ} {numbers : List ℕ} {words left rest : List (List ℕ)} →
-  Takes (λ word. IsNumber word × (digits_value 10 word ≡ n)) words left → TakesNumbers numbers left rest → TakesNumbers (n ∷ numbers) words rest
+    Takes (λ word. IsNumber word × (digits_value 10 word ≡ n)) words left → TakesNumbers numbers left rest → TakesNumbers (n ∷ numbers) words rest
 number-first {numbers = numbers} first others = record {
   named = first.word ∷ others.named;
   parts = read-on first.parts others.parts;
   right = All-cons IsNumber first.word others.named first.right.0 others.right;
-  values = ap (λ (m : ℕ). m ∷ numbers) (sym first.right.1) ∙ ap (λ (l : List ℕ). digits_value 10 first.word ∷ l) others.values }
+  values = ap (λ (m : ℕ). m ∷ numbers) (sym first.right.1) ∙ ap (λ (l : List ℕ). digits_value 10 first.word ∷ l) others.values;
+}

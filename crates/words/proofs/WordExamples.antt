@@ -13,4 +13,4 @@ two-words = refl
 
 -- blanks alone, and nothing
 pub no-words : (words_between blanks (32 ∷ 9 ∷ []) ≡ []) × (words_between blanks [] ≡ [])
-no-words = (refl , refl)
+no-words = (refl, refl)

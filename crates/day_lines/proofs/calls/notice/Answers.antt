@@ -13,8 +13,8 @@ use Rattle.day_lines.specs.Answered.{Notices}
 
 -- the call on the words that were read
 noticed : (g : given.Over) (c : After-notice g) (reply : Reply) →
-  (reply, c.notice.new.book) ≡ notice_of c.args.book.now c.in_ok-participant.participant c.as_slice.result.now c.as_slice-2.result.now →
-  Notices (words_left c.args.line) c.args.book.now c.notice.new.book reply
+    (reply, c.notice.new.book) ≡ notice_of c.args.book.now c.in_ok-participant.participant c.as_slice.result.now c.as_slice-2.result.now →
+    Notices (words_left c.args.line) c.args.book.now c.notice.new.book reply
 noticed g c reply called = record {
   participant = c.in_ok-participant.ensures.read.word;
   entries = words_left c.number.new.self;
@@ -25,18 +25,19 @@ noticed g c reply called = record {
   lots = c.in_ok-issues.lots.items;
   named = c.in_ok-issues.ensures;
   called =
-    noticed-with reply c.args.book.now c.notice.new.book _ _ _ _ _ _ called
-      (sym c.in_ok-participant.ensures.read.right.1) c.as_slice.ensures.value c.as_slice-2.ensures.value }
+      noticed-with reply c.args.book.now c.notice.new.book _ _ _ _ _ _ called
+      (sym c.in_ok-participant.ensures.read.right.1) c.as_slice.ensures.value c.as_slice-2.ensures.value;
+}
 
 pub returns-in_err-notice : goal.returns-in_err-notice
 returns-in_err-notice g c =
-  call-refused c.from_residual-in_err-notice.result c.in_err-notice.field-0.0 (Notices (words_left c.args.line) c.args.book.now c.notice.new.book) c.args.book.now c.notice.new.book
+    call-refused c.from_residual-in_err-notice.result c.in_err-notice.field-0.0 (Notices (words_left c.args.line) c.args.book.now c.notice.new.book) c.args.book.now c.notice.new.book
     c.from_residual-in_err-notice.ensures.1
     (noticed g (goal.at.returns-in_err-notice g c).After-notice _ c.in_err-notice.ensures)
 
 pub returns-in_err-println : goal.returns-in_err-println
 returns-in_err-println g c =
-  answer-unwritten c.from_residual-in_err-println.result (Notices (words_left c.args.line) c.args.book.now c.notice.new.book) c.args.book.now c.notice.new.book
+    answer-unwritten c.from_residual-in_err-println.result (Notices (words_left c.args.line) c.args.book.now c.notice.new.book) c.args.book.now c.notice.new.book
     c.from_residual-in_err-println.ensures.1
     (noticed g (goal.at.returns-in_err-println g c).After-notice _ c.in_ok-notice.ensures)
 
