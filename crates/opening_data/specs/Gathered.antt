@@ -43,7 +43,7 @@ pub record DayLine (words : List (List ℕ)) (old new : OpeningData) : Type 0 wh
   pub gathered : new ≡ empty (digits_value 10 participants) (digits_value 10 issues)
 
 -- one more issue is listed, behind those that are
-pub record Listed (code terms : List ℕ) (old new : OpeningData) : Type 0 where
+pub record Added (code terms : List ℕ) (old new : OpeningData) : Type 0 where
   pub room : old.listed < most_issues
   pub gathered : new ≡ record old { listed = old.listed + 1; codes = new.codes; terms = new.terms }
   pub earlier_codes : slice_range new.codes 0 (code_size * old.listed) ≡ slice_range old.codes 0 (code_size * old.listed)
@@ -59,7 +59,7 @@ pub record IssueLine (words : List (List ℕ)) (old new : OpeningData) : Type 0 
   pub parts : words ≡ code ∷ rest
   pub read : TakesNumbers terms rest []
   pub lengths : (length code ≡ 12) × (length terms ≡ 6)
-  pub listed : Listed code terms old new
+  pub added : Added code terms old new
 
 -- "receipt PARTICIPANT ISSUE LOTS": the lots stand by participant, then issue
 pub record ReceiptLine (words : List (List ℕ)) (old new : OpeningData) : Type 0 where

@@ -4,7 +4,7 @@
 ghost use Rattle.std.specs.Prelude.{◌≡◌, ◌+◌, ◌*◌, ◌<◌, ◌≤◌, min, length, slice_range, IfOk, OnErr, OnOk};
 ghost use Rattle.reply.specs.Answers.{told};
 ghost use Rattle.words.specs.Lines.{words_left, TakesNumbers};
-ghost use Rattle.opening_data.specs.Gathered.{empty, opening_of, DayLine, Listed, IssueLine, ReceiptLine, PairLine};
+ghost use Rattle.opening_data.specs.Gathered.{empty, opening_of, DayLine, Added, IssueLine, ReceiptLine, PairLine};
 ghost use Rattle.rule.specs.Day.{baskets, code_size};
 ghost use Rattle.rule.specs.Layout.{most_participants, most_issues, lots_size, square};
 
@@ -93,10 +93,10 @@ impl OpeningData {
     }
 
     // One more issue, behind those that are listed.
-    fn list<'a>(&mut self, code: &[u8], terms: &[u64; TERM]) -> Result<(), Unread<'a>>
+    fn add_issue<'a>(&mut self, code: &[u8], terms: &[u64; TERM]) -> Result<(), Unread<'a>>
         requires { length code.now ≡ code_size }
-        ensures listed { OnOk result (Listed code.now terms.now self.old self.new) }
-        ensures unlisted { OnErr result (self.new ≡ self.old) }
+        ensures added { OnOk result (Added code.now terms.now self.old self.new) }
+        ensures kept { OnErr result (self.new ≡ self.old) }
     {
         let i = self.listed;
         if i >= MOST_ISSUES {
@@ -121,7 +121,7 @@ impl OpeningData {
         }
         let terms = next_terms(&mut line)?;
         line.end()?;
-        self.list(code, &terms)
+        self.add_issue(code, &terms)
     }
 
     // The codes of the issues that are listed.
