@@ -2,7 +2,8 @@
 """archive: makes crates/c_api/out/libc_api.a, which the tests link with, over the libraries that `rt ci` has just proved and built here.
 
 `rt lib` alone would prove each of them once more, one after the other. It takes a library that has a stamp; `rt ci` writes none, since its
-libraries fit only those of the same run. These are of one run, so each gets its stamp for this one command. With a toolchain that has no
+libraries fit only those of the same run. These are of one run, so each gets its stamp for this one command.
+Only right after `rt ci`, as the gate calls it: a library that is older than the text would be taken for it. With a toolchain that has no
 such stamps, `rt lib` proves them once more.
 """
 import os
