@@ -1,4 +1,5 @@
 // A day: what its opening is given, the book that its calls are made on, and the line that each first word is.
+use arrayvec::ArrayVec;
 use day_lines::Failure;
 use opening_data::OpeningData;
 use std::io;
@@ -6,6 +7,12 @@ use words::{Found, Line, Unread};
 
 // the first words that there are
 const CALLS: &str = "day, issue, receipt, pair, open, trade, notice, run, close or show";
+
+// the words that a line has room for, more than its call takes: of a line with more the first ones say what is wrong
+const WORDS: usize = 72;
+
+// what stands between words
+const BLANKS: &[u8] = b" \t\r";
 
 #[derive(Drop)]
 pub struct Day {
@@ -39,9 +46,9 @@ impl Day {
     }
 
     // The line of a first word; none, where it is no such word.
-    fn call<'a, R: Print + AllocGlobal>(
+    fn call<'a>(
         &mut self,
-        rt: &R,
+        rt: &impl Print,
         first: &[u8],
         line: Line<'a>,
     ) -> Option<Result<(), Failure<'a>>> {
@@ -61,18 +68,11 @@ impl Day {
         Some(answer)
     }
 
-    // "one call to a line"; "`#` starts a comment"; "empty lines count for nothing"
-    pub fn answer<R: Print + AllocGlobal>(
-        &mut self,
-        rt: &R,
-        number: u64,
-        line: &[u8],
-    ) -> io::Result<()> {
-        let text = line.split(|byte| *byte == b'#').next().unwrap_or(line);
-        let Ok(words) = words::split(rt.alloc(), text, b" \t\r") else {
-            let unread = Unread::NoMemory;
-            return println!(rt; "error {number}: {unread}");
-        };
+    // "one call to a line". Not inlined: each empty line would take a run's room on the stack.
+    #[inline(never)]
+    fn answer_text(&mut self, rt: &impl Print, number: u64, text: &[u8]) -> io::Result<()> {
+        let mut words = ArrayVec::<&[u8], WORDS>::new();
+        words::fill_words(text, BLANKS, &mut words);
         let Some((first, rest)) = words.as_slice().split_first() else {
             return Ok(());
         };
@@ -84,5 +84,14 @@ impl Day {
                 println!(rt; "error {number}: {unread}")
             }
         }
+    }
+
+    // "`#` starts a comment"; "empty lines count for nothing"
+    pub fn answer(&mut self, rt: &impl Print, number: u64, line: &[u8]) -> io::Result<()> {
+        let text = line.split(|byte| *byte == b'#').next().unwrap_or(line);
+        if text.iter().all(|byte| BLANKS.contains(byte)) {
+            return Ok(());
+        }
+        self.answer_text(rt, number, text)
     }
 }

@@ -6,63 +6,95 @@ mod day;
 mod help;
 mod sample;
 
+use arrayvec::ArrayVec;
 use day::Day;
 use std::env::FillError;
 use std::fs::File;
 use std::io;
-use std::io::{BufRead, BufReader, Read, Write};
+use std::io::{ErrorKind, Read, Write};
 use std::rt::Env;
 use words::Unread;
 
 // the bytes that a line has room for
 const ROOM: usize = 4096;
 
-// The next line of a source, without its end; what could be read of it, where a read fails. A yes or no, whether more may come: the
-// line is there with either.
-fn read_line<S: BufRead>(source: &mut S, line: &mut Vec<u8>) -> bool {
-    line.clear();
-    let read = source
-        .by_ref()
-        .take(ROOM as u64 + 1)
-        .read_until(b'\n', line);
-    if line.as_slice().last() == Some(&b'\n') {
-        line.pop();
-    } else if line.len() > ROOM {
-        let _ = source.skip_until(b'\n');
-    }
-    matches!(read, Ok(1..))
+// What has come of a line.
+#[derive(Drop)]
+struct Begun {
+    number: u64,
+    bytes: ArrayVec<u8, ROOM>,
+    // more has come than there is room for
+    over: bool,
 }
 
-// A day from a book of zeros: the lines of a source, to its end or to a read that fails.
-fn run_day<S: BufRead + Drop>(rt: &HostRuntime, mut source: S) {
-    let mut day = Day::new();
-    let mut line = Vec::new(rt.alloc());
-    // nothing says that a source ends: more turns than any takes
-    for number in 1..u64::MAX {
-        let more = read_line(&mut source, &mut line);
+impl Begun {
+    fn append(&mut self, piece: &[u8]) {
+        if self.bytes.try_extend_from_slice(piece).is_err() {
+            self.over = true;
+        }
+    }
+
+    // The line has its end: it is answered, and the next one begins.
+    fn end(&mut self, rt: &HostRuntime, day: &mut Day) {
+        let number = self.number;
         // what cannot be written is lost, and the next line is answered all the same
-        let _ = if line.len() > ROOM {
+        let _ = if self.over {
             let unread = Unread::NoRoom(ROOM, "bytes");
             println!(rt; "error {number}: {unread}")
         } else {
-            day.answer(rt, number, line.as_slice())
+            day.answer(rt, number, self.bytes.as_slice())
         };
-        if !more {
-            return;
+        self.number = number.wrapping_add(1);
+        self.bytes.clear();
+        self.over = false;
+    }
+
+    // The next bytes of a source.
+    fn take(&mut self, rt: &HostRuntime, day: &mut Day, text: &[u8]) {
+        for (i, piece) in text.split(|byte| *byte == b'\n').enumerate() {
+            // pieces stand on both sides of each end of a line
+            if i > 0 {
+                self.end(rt, day);
+            }
+            self.append(piece);
         }
     }
 }
 
+// A day from a book of zeros: the lines of a source, to its end or to a read that fails.
+fn run_day<S: Read + Drop>(rt: &HostRuntime, mut source: S) {
+    let mut day = Day::new();
+    let mut line = Begun {
+        number: 1,
+        bytes: ArrayVec::new(),
+        over: false,
+    };
+    let mut text = [0u8; 4096];
+    // nothing says that a source ends: more turns than any takes
+    for _ in 0..u64::MAX {
+        match source.read(&mut text) {
+            Ok(0) => break,
+            Ok(n) => line.take(rt, &mut day, &text[..n]),
+            Err(error) => {
+                if error.kind() != ErrorKind::Interrupted {
+                    break;
+                }
+            }
+        }
+    }
+    line.end(rt, &mut day);
+}
+
 fn run_file(rt: &HostRuntime, path: &str) -> io::Result<()> {
     let file = File::open(rt, path)?;
-    run_day(rt, BufReader::new(rt.alloc(), file)?);
+    run_day(rt, file);
     Ok(())
 }
 
 // What an argument asks for. A file's name is UTF-8 where it can be opened.
 fn run_argument(rt: &HostRuntime, name: &[u8]) -> io::Result<()> {
     if name == b"-".as_slice() {
-        run_day(rt, BufReader::new(rt.alloc(), rt.stdin())?);
+        run_day(rt, rt.stdin());
         return Ok(());
     }
     if name == b"--help".as_slice() {

@@ -2,7 +2,9 @@
 #![tactic(auto)]
 
 ghost use Rattle.std.specs.Prelude.{◌≡◌};
-ghost use Rattle.rule.specs.Layout.{close_of};
+ghost use Rattle.lists.specs.Parts.{grid, rows_at, written};
+ghost use Rattle.lists.specs.Rows.{Spaced};
+ghost use Rattle.rule.specs.Layout.{most_participants, close_of};
 ghost use Rattle.reply.specs.Answers.{told};
 ghost use Rattle.rule.proofs.BookLaws.{SoundBook};
 ghost use Rattle.close.specs.Closed.{WriteReceiptsAsks, WritePairsAsks, receipts_written, pairs_written, close_sound};
@@ -23,6 +25,21 @@ fn write_receipts(book: &[u64], receipts: &mut [u64])
     }
 }
 
+// One basket's marks, row after row.
+fn write_square(marks: &[u64], participants: usize, square: &mut [u64])
+    requires there { Spaced marks.now most_participants participants participants }
+    requires room { Spaced square.old participants participants participants }
+    ensures { square.new ≡ written square.old (rows_at 0 participants (grid marks.now 0 most_participants participants participants)) }
+{
+    let rows = lists::Rows {
+        cells: marks,
+        apart: layout::MOST_PARTICIPANTS,
+        n: participants,
+        m: participants,
+    };
+    rows.copy_to(square, participants);
+}
+
 // Today's marks, basket by basket.
 fn write_pairs(book: &[u64], pairs: &mut [u64])
     requires { WritePairsAsks book.now pairs.old }
@@ -31,13 +48,11 @@ fn write_pairs(book: &[u64], pairs: &mut [u64])
     let participants = book[layout::PARTICIPANTS] as usize;
     let square = participants * participants;
     for k in 0..layout::BASKETS {
-        let marks = lists::Rows {
-            cells: layout::marks(book, layout::TODAY, k),
-            apart: layout::MOST_PARTICIPANTS,
-            n: participants,
-            m: participants,
-        };
-        marks.copy_to(&mut pairs[square * k..], participants);
+        write_square(
+            layout::marks(book, layout::TODAY, k),
+            participants,
+            &mut pairs[square * k..],
+        );
     }
 }
 

@@ -6,7 +6,8 @@ ghost use Rattle.day_words.specs.Named.{codes_in, codes_of_book};
 ghost use Rattle.day_lines.specs.Answered.{Answers, UnreadKeeps, Opens, TradeLine, Trades, Notices};
 
 use crate::failure::Failure;
-use day_words::{Codes, codes_of, entries, next_basket};
+use arrayvec::ArrayVec;
+use day_words::{Codes, codes_of, fill_entries, next_basket};
 use layout::{MOST_ISSUES, MOST_PARTICIPANTS};
 use opening_data::OpeningData;
 use quantities::Yen;
@@ -79,11 +80,7 @@ fn codes_in_book(book: &[u64]) -> [u8; day_words::CODES]
 }
 
 // "notice PARTICIPANT ISSUE=LOTS ..": a code that the day does not have is passed on as 32, and gets refusal 12.
-pub fn notice<'a, R: Print + AllocGlobal>(
-    rt: &R,
-    book: &mut [u64],
-    mut line: Line<'a>,
-) -> Result<(), Failure<'a>>
+pub fn notice<'a>(rt: &impl Print, book: &mut [u64], mut line: Line<'a>) -> Result<(), Failure<'a>>
     requires { length book.old ≡ book_length }
     ensures { Answers result (Notices (words_left line.entry) book.old book.new) book.old book.new }
 {
@@ -91,23 +88,22 @@ pub fn notice<'a, R: Print + AllocGlobal>(
     line.at_most(ROOM, "entries")?;
     let codes = codes_in_book(book);
     let codes = Codes { bytes: &codes };
-    let (issues, lots) = entries(rt.alloc(), &codes, &line)?;
+    let mut issues = ArrayVec::<u64, ROOM>::new();
+    let mut lots = ArrayVec::<u64, ROOM>::new();
+    fill_entries(&codes, &line, &mut issues, &mut lots)?;
     allocation::notice(book, participant, issues.as_slice(), lots.as_slice())?;
     println!(rt; "noted")?;
     Ok(())
 }
 
 // "run PARTICIPANT ..": the draw.
-pub fn run<'a, R: Print + AllocGlobal>(
-    rt: &R,
-    book: &mut [u64],
-    line: Line<'a>,
-) -> Result<(), Failure<'a>>
+pub fn run<'a>(rt: &impl Print, book: &mut [u64], line: Line<'a>) -> Result<(), Failure<'a>>
     requires { length book.old ≡ book_length }
     ensures { UnreadKeeps result book.old book.new }
 {
     line.at_most(ROOM, "participants")?;
-    let draw = line.numbers(rt.alloc(), "participant")?;
+    let mut draw = ArrayVec::<u64, ROOM>::new();
+    line.fill_numbers(&mut draw, "participant")?;
     // the call writes into memory that it is lent, and says how much of it counts
     let mut matches = [0u64; layout::MATCH * layout::MOST_MATCHES];
     let mut lines = [0u64; layout::LINE * layout::MOST_LINES];

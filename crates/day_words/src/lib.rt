@@ -8,4 +8,4 @@ mod entry;
 
 pub use basket::{Basket, next_basket, next_basket_of_day, read_basket};
 pub use codes::{CODES, Codes, codes_of};
-pub use entry::{entries, read_entry};
+pub use entry::{entries, fill_entries, read_entry};

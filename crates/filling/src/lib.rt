@@ -170,7 +170,9 @@ impl Supply<'_> {
             had: Lots(lots[i]),
             reached,
         };
-        let turn = standing.next(pass, Lots(self.usable[i]), amount)?;
+        let Some(turn) = standing.next(pass, Lots(self.usable[i]), amount) else {
+            return None;
+        };
         lots[i] = turn.lots.0;
         Some(turn.reached)
     }

@@ -25,9 +25,6 @@ module _ (P : ℕ → ℕ → Type 0) where
   pub changed-none : (row : List ℕ) → Changed P row row 0
   changed-none row = record { size = refl; cells = λ k l. absurd (not-suc-le-zero l); rest = λ k l. refl }
 
-  pub changed-copy : {row₀ row : List ℕ} → row ≡ row₀ → Changed P row₀ row 0
-  changed-copy e = record { size = ap length e; cells = λ k l. absurd (not-suc-le-zero l); rest = λ k l. ap (λ (r : List ℕ). get_or r k 0) e }
-
   pub changed-more : {row₀ row : List ℕ} {i : ℕ} (v : ℕ) → i < length row → P i v → Changed P row₀ row i → Changed P row₀ (set row i v) (i + 1)
   changed-more {row₀} {row} {i} v h e w = record {
     size = length-set row i v ∙ w.size;

@@ -1,21 +1,19 @@
 -- Laws that the proofs of an opening cite. Assumes nothing.
 use mathlib.Core.Path.{◌≡◌, refl, sym, ap, ap₂, ◌∙◌}
 use mathlib.Core.Logic.{◌≢◌}
-use Prim.Native.Nat.{ℕ, zero, suc, ◌+◌, ◌-◌, ◌*◌, ◌/◌, ◌≤◌, ◌<◌}
+use Prim.Native.Nat.{ℕ, zero, suc, ◌+◌, ◌*◌, ◌/◌, ◌≤◌, ◌<◌}
 use native.Mathlib.Nat.{mul-le-mul, mul-le-mul_left, mul-suc, mul_comm, le_refl}
 use native.Mathlib.Numerals.{add-one}
 use native.Mathlib.Omega.{arith}
 use mathlib.Core.Bool.{Bool, true, false}
 use borrow.Author.Rules.{rules}
-use borrow.Rule.Slice.PartMut.{put_mid}
 use mathlib.Core.List.{List, [], ◌++◌, map, append_assoc, append-nil}
 use lib.ListN.{length, set, length-set}
-use lib.Seq.{take_all}
 use Rattle.lists.specs.Tables.{from, table, zeros, row}
 use Rattle.lists.specs.Folds.{joined}
 use Rattle.lists.specs.Parts.{grid, rows_at, written}
 use Rattle.lists.proofs.TableLaws.{length-zeros, get_or-table, length-table}
-use Rattle.lists.proofs.PartLaws.{part-back, length_over, Shape, grid-shape, table-agree, written-append}
+use Rattle.lists.proofs.PartLaws.{Shape, grid-shape, table-agree, written-append}
 use Rattle.ranges.specs.Ranges.{terms_in_range}
 use Rattle.lists.proofs.CutLaws.{cut, cut-all}
 use Rattle.rule.specs.Isin.{codes_right}
@@ -27,21 +25,8 @@ use Rattle.rule.proofs.LayoutLaws.{terms-rows}
 use Rattle.rule.proofs.SoundLaws.{Sizes, sizes-of}
 use Rattle.rule.proofs.AnswerLaws.{answers}
 use Rattle.rule.proofs.OpenLaws.{Openable, open-stored}
-use Rattle.lists.proofs.CopyLaws.{Copies, copied-length, copied-joined}
+use Rattle.lists.proofs.CopyLaws.{Copies, copied-length}
 use Rattle.opening.specs.Opened.{Lengths, marks_written, open_written, open_lengths}
-
--- ---- an array whose rows stand one after the other, copied whole
-
-pub copied-whole : (b : List ℕ) (at w m : ℕ) (source : List ℕ) → at + length source ≤ length b → length source ≡ w * m
-    → put_mid at (at + length source - at) b source ≡ written b (rows_at at w (grid source 0 w m w))
-copied-whole b at w m source h e =
-    let k : length source ≡ m * w = omega (arith, e, mul_comm w m) in
-    let r : Copies b at w m w source 0 w = record { wide = le_refl w; room = omega (arith, h, e); source_wide = le_refl w; rows = omega (arith, e) } in
-    let z : at + length source - at ≡ at + m * w - at = omega (arith, k) in
-    ap (λ (n : ℕ). put_mid at n b source) z ∙ copied-joined b at w m w source 0 w r refl refl source (sym (take_all (0 + m * w - 0) source (omega (arith, k))))
-
-pub copied-size : (b : List ℕ) (at : ℕ) (source : List ℕ) → at + length source ≤ length b → length (put_mid at (at + length source - at) b source) ≡ length b
-copied-size b at source h = ap length (part-back b at (length source) source refl) ∙ length_over b source at h
 
 -- ---- the pair marks, basket by basket
 
@@ -131,25 +116,19 @@ module _ (n m : ℕ) (codes terms receipts pairs b : List ℕ) (t : Lengths n m 
   pub length-sized : length (sized x₀ n m) ≡ book_length
   length-sized = length-set (set x₀ participants_at n) issues_at m ∙ length-set x₀ participants_at n ∙ length-cleared
 
-  pub codes_room : codes_at + length codes ≤ length (sized x₀ n m)
-  codes_room = omega (arith, length-sized, t.most, t.codes_size)
+  pub codes-room : Copies (sized x₀ n m) codes_at code_size m code_size codes 0 code_size
+  codes-room = record { wide = le_refl code_size; source_wide = le_refl code_size; room = omega (arith, length-sized, t.most); rows = omega (arith, t.codes_size) }
 
-  module _ (x₁ : List ℕ) (e₁ : x₁ ≡ put_mid codes_at (codes_at + length codes - codes_at) (sized x₀ n m) codes) where
-    is₁ : x₁ ≡ written (sized x₀ n m) (rows_at codes_at code_size (grid codes 0 code_size m code_size))
-    is₁ = e₁ ∙ copied-whole (sized x₀ n m) codes_at code_size m codes codes_room t.codes_size
-
+  module _ (x₁ : List ℕ) (e₁ : x₁ ≡ written (sized x₀ n m) (rows_at codes_at code_size (grid codes 0 code_size m code_size))) where
     length₁ : length x₁ ≡ book_length
-    length₁ = ap length e₁ ∙ copied-size (sized x₀ n m) codes_at codes codes_room ∙ length-sized
+    length₁ = ap length e₁ ∙ copied-length (sized x₀ n m) codes_at code_size m code_size codes 0 code_size codes-room ∙ length-sized
 
-    pub terms-room : terms_at + length terms ≤ length x₁
-    terms-room = omega (arith, length₁, t.most, t.terms_size)
+    pub terms-room : Copies x₁ terms_at term_size m term_size terms 0 term_size
+    terms-room = record { wide = le_refl term_size; source_wide = le_refl term_size; room = omega (arith, length₁, t.most); rows = omega (arith, t.terms_size) }
 
-    module _ (x₂ : List ℕ) (e₂ : x₂ ≡ put_mid terms_at (terms_at + length terms - terms_at) x₁ terms) where
-      is₂ : x₂ ≡ written x₁ (rows_at terms_at term_size (grid terms 0 term_size m term_size))
-      is₂ = e₂ ∙ copied-whole x₁ terms_at term_size m terms terms-room t.terms_size
-
+    module _ (x₂ : List ℕ) (e₂ : x₂ ≡ written x₁ (rows_at terms_at term_size (grid terms 0 term_size m term_size))) where
       length₂ : length x₂ ≡ book_length
-      length₂ = ap length e₂ ∙ copied-size x₁ terms_at terms terms-room ∙ length₁
+      length₂ = ap length e₂ ∙ copied-length x₁ terms_at term_size m term_size terms 0 term_size terms-room ∙ length₁
 
       pub receipts-room : Copies x₂ receipts_at most_issues n m receipts 0 m
       receipts-room = record { wide = t.most; source_wide = le_refl m; room = omega (arith, length₂, t.few); rows = omega (arith, t.receipts_size, mul_comm m n) }
@@ -167,8 +146,8 @@ module _ (n m : ℕ) (codes terms receipts pairs b : List ℕ) (t : Lengths n m 
           all-written =
               e₄ ∙ ap (λ (x : List ℕ). marks_written x n pairs)
               (e₃ ∙ ap (λ (x : List ℕ). written x (rows_at receipts_at most_issues (grid receipts 0 m n m)))
-              (is₂ ∙ ap (λ (x : List ℕ). written x (rows_at terms_at term_size (grid terms 0 term_size m term_size)))
-              (is₁ ∙ ap (λ (x : List ℕ). written (sized x n m) (rows_at codes_at code_size (grid codes 0 code_size m code_size)))
+              (e₂ ∙ ap (λ (x : List ℕ). written x (rows_at terms_at term_size (grid terms 0 term_size m term_size)))
+              (e₁ ∙ ap (λ (x : List ℕ). written (sized x n m) (rows_at codes_at code_size (grid codes 0 code_size m code_size)))
               (e₀ ∙ ap zeros size))))
 
 -- ---- what is written is the opened day

@@ -1,28 +1,24 @@
 // Opening a day: "sizes first (participants, issues), then two parallel arrays, codes and terms .. scheduled receipts .. and pair marks".
 #![tactic(auto)]
 
-ghost use Rattle.std.specs.Prelude.{◌≡◌, ◌*◌, ◌≤◌, [], length};
-ghost use Rattle.rule.specs.Day.{code_size};
-ghost use Rattle.rule.specs.Layout.{most_issues, book_length, open_of};
+ghost use Rattle.std.specs.Prelude.{◌≡◌, length};
+ghost use Rattle.rule.specs.Layout.{book_length, open_of};
 ghost use Rattle.reply.specs.Answers.{told};
 ghost use Rattle.opening.specs.Opened.{Lengths, marks_written, open_written, open_lengths};
 
-use arrayvec::ArrayVec;
 use lists::Rows;
 use reply::Refusal;
 use sound::limits;
 
-// The codes of the most issues, a cell for each byte.
-type Codes = ArrayVec<u64, CODE_CELLS>;
-
 const CODE_CELLS: usize = layout::CODE * layout::MOST_ISSUES;
 
-fn widen(codes: &[u8], cells: &mut Codes)
-    requires { (cells.old.items ≡ []) × (length codes.now ≤ code_size * most_issues) }
-    ensures { cells.new.items ≡ codes.now }
+// The bytes of the codes, a cell for each.
+fn widen(codes: &[u8], cells: &mut [u64])
+    requires { length cells.old ≡ length codes.now }
+    ensures { cells.new ≡ codes.now }
 {
-    for byte in codes {
-        cells.push(u64::from(*byte));
+    for (i, cell) in cells.iter_mut().enumerate() {
+        *cell = u64::from(codes[i]);
     }
 }
 
@@ -66,8 +62,20 @@ impl<'a> Given<'a> {
         book.fill(0);
         book[layout::PARTICIPANTS] = self.participants as u64;
         book[layout::ISSUES] = self.issues as u64;
-        book[layout::CODES..layout::CODES + self.codes.len()].copy_from_slice(self.codes);
-        book[layout::TERMS..layout::TERMS + self.terms.len()].copy_from_slice(self.terms);
+        let codes = Rows {
+            cells: self.codes,
+            apart: layout::CODE,
+            n: self.issues,
+            m: layout::CODE,
+        };
+        codes.copy_to(&mut book[layout::CODES..], layout::CODE);
+        let terms = Rows {
+            cells: self.terms,
+            apart: layout::TERM,
+            n: self.issues,
+            m: layout::TERM,
+        };
+        terms.copy_to(&mut book[layout::TERMS..], layout::TERM);
         let receipts = Rows {
             cells: self.receipts,
             apart: self.issues,
@@ -141,12 +149,12 @@ pub fn open(
     if book.len() != layout::LENGTH {
         return Err(Refusal::WrongSize);
     }
-    let mut cells = Codes::new();
-    widen(codes, &mut cells);
+    let mut cells = [0u64; CODE_CELLS];
+    widen(codes, &mut cells[..codes.len()]);
     let given = Given {
         participants: n,
         issues: m,
-        codes: cells.as_slice(),
+        codes: &cells[..codes.len()],
         terms,
         receipts,
         pairs,

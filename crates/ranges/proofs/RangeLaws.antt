@@ -1,6 +1,7 @@
 -- The ranges of opening data as tests on cells. Assumes nothing.
-use Rattle.std.proofs.Common.{◌≡◌, ℕ, zero, suc, ◌+◌, ◌-◌, ◌*◌, ◌/◌, ◌<◌, ◌≤◌, Bool, ◌&&◌, eqb, leb, List, [], ◌++◌, length, get_or, get_or-take, take, drop, drop-drop, sym, ap, ◌∙◌, ap₂, mul-le-mul_left, mul-zero, mul-suc, arith, length-take, length-drop, length-append}
+use Rattle.std.proofs.Common.{◌≡◌, ℕ, zero, suc, ◌+◌, ◌-◌, ◌*◌, ◌/◌, ◌<◌, ◌≤◌, Bool, ◌&&◌, eqb, leb, List, [], ◌++◌, length, get_or, get_or-take, take, drop, drop-drop, sym, ap, ◌∙◌, ap₂, mul-le-mul_left, mul-zero, mul-suc, add-zero, arith, length-take, length-drop, length-append}
 use native.Mathlib.Decide.{dec_lt}
+use lib.Bits.{bit_or}
 use lib.ListN.{get_or-map}
 use Rattle.lists.specs.Tests.{all_below}
 use Rattle.lists.specs.Tables.{table, row, cell}
@@ -15,7 +16,7 @@ use Rattle.rule.specs.Value.{Terms}
 use Rattle.rule.specs.Day.{terms_of, marks_of}
 use Rattle.rule.specs.Sound.{terms_fit, all_terms_fit, at_most, pairs_fit, marks_fit}
 use Rattle.ranges.specs.Ranges.{SquareFitsAsks, issue_fits, terms_in_range, all_pass, row_passes, square_fits}
-use Rattle.ranges.proofs.ScanLaws.{all-and, all_split}
+use Rattle.ranges.proofs.ScanLaws.{all-and, all_split, all-overlap, bits_below}
 use Rattle.lists.proofs.CutLaws.{cut, cut-count, cut-get, cut-room, part-first, part-rest, block-within}
 
 -- ---- a row
@@ -24,6 +25,12 @@ row-split : (test : ℕ → Bool) (b : List ℕ) (at i n : ℕ) → row_passes t
 row-split test b at i n =
     all_split (λ k. test (get_or b (at + k) 0)) i n
     ∙ ap (λ (r : Bool). row_passes test b at i && r) (all-ext _ _ n (λ k l. ap (λ (j : ℕ). test (get_or b j 0)) (omega arith)))
+
+-- two parts that may overlap
+row-overlap : (test : ℕ → Bool) (b : List ℕ) (a o n : ℕ) → o ≤ a → a ≤ o + n → (row_passes test b 0 a && row_passes test b o n) ≡ row_passes test b 0 (o + n)
+row-overlap test b a o n h l =
+    ap (λ (r : Bool). row_passes test b 0 a && r) (all-ext _ _ n (λ k p. ap (λ (j : ℕ). test (get_or b j 0)) (omega arith)))
+    ∙ all-overlap (λ k. test (get_or b (0 + k) 0)) a o n h l
 
 -- a part of the cells, as a slice of their own
 module _ (test : ℕ → Bool) (b : List ℕ) (at : ℕ) where
@@ -34,6 +41,33 @@ module _ (test : ℕ → Bool) (b : List ℕ) (at : ℕ) where
 
 whole-passes : (test : ℕ → Bool) (b : List ℕ) → all_pass test b ≡ row_passes test b 0 (length b)
 whole-passes test b = all-ext _ _ (length b) (λ i l. let e : i ≡ 0 + i = omega arith in ap (λ (j : ℕ). test (get_or b j 0)) e)
+
+-- the bits of a row's marks, from those of its parts
+abbrev low : ℕ → Bool
+low x = leb x 1
+
+pub four_is : (b : List ℕ) (at : ℕ)
+    → leb (bit_or (bit_or (bit_or (get_or b at 0) (get_or b (at + 1) 0)) (get_or b (at + 2) 0)) (get_or b (at + 3) 0)) 1 ≡ row_passes low b at 4
+unfolding all_below
+four_is b at =
+    let x = get_or b at 0 in
+    let y = get_or b (at + 1) 0 in
+    let z = get_or b (at + 2) 0 in
+    rw (bits_below (bit_or (bit_or x y) z) (get_or b (at + 3) 0) 1, bits_below (bit_or x y) z 1, bits_below x y 1, add-zero)
+
+module _ (b : List ℕ) (first last : ℕ) (f : leb first 1 ≡ row_passes low b 0 4) (l : leb last 1 ≡ row_passes low b (length b - 4) 4) where
+  pub ends-are : 4 ≤ length b → length b ≤ 8 → leb (bit_or first last) 1 ≡ all_pass low b
+  ends-are h k =
+      let e : (length b - 4) + 4 ≡ length b = omega arith in
+      bits_below first last 1 ∙ ap₂ ◌&&◌ f l ∙ row-overlap low b 4 (length b - 4) 4 (omega arith) (omega arith)
+      ∙ ap (λ (n : ℕ). row_passes low b 0 n) e ∙ sym (whole-passes low b)
+
+  pub three-are : (middle : ℕ) → leb middle 1 ≡ row_passes low b 4 4 → 8 ≤ length b → length b ≤ 12 → leb (bit_or (bit_or first middle) last) 1 ≡ all_pass low b
+  three-are middle g h k =
+      let e : (length b - 4) + 4 ≡ length b = omega arith in
+      let eight = bits_below first middle 1 ∙ ap₂ ◌&&◌ f g ∙ sym (row-split low b 0 4 4) in
+      bits_below (bit_or first middle) last 1 ∙ ap₂ ◌&&◌ eight l
+      ∙ row-overlap low b 8 (length b - 4) 4 (omega arith) (omega arith) ∙ ap (λ (n : ℕ). row_passes low b 0 n) e ∙ sym (whole-passes low b)
 
 -- ---- rows
 

@@ -39,6 +39,24 @@ all_split t i (suc n) =
     ap (λ (m : ℕ). all_below m t) e ∙ ap (λ (b : Bool). b && t (i + n)) (all_split t i n)
     ∙ and_assoc (all_below i t) (all_below n (λ k. t (i + k))) (t (i + n))
 
+and_again : (a b c : Bool) → ((a && b) && (b && c)) ≡ (a && (b && c))
+and_again true true c = refl
+and_again true false c = refl
+and_again false b c = refl
+
+-- two parts that may overlap
+pub all-overlap : (t : ℕ → Bool) (a o n : ℕ) → o ≤ a → a ≤ o + n → (all_below a t && all_below n (λ k. t (o + k))) ≡ all_below (o + n) t
+all-overlap t a o n h l =
+    let first : a ≡ o + (a - o) = omega arith in
+    let second : n ≡ (a - o) + (n - (a - o)) = omega arith in
+    let parts : all_below n s ≡ (all_below (a - o) s && all_below (n - (a - o)) (λ k. s (a - o + k))) = ap (λ (m : ℕ). all_below m s) second ∙ all_split s (a - o) (n - (a - o)) in
+    ap₂ ◌&&◌ (ap (λ (m : ℕ). all_below m t) first ∙ all_split t o (a - o)) parts
+    ∙ and_again (all_below o t) (all_below (a - o) s) (all_below (n - (a - o)) (λ k. s (a - o + k)))
+    ∙ sym (all_split t o n ∙ ap (λ (r : Bool). all_below o t && r) parts)
+  where
+    s : ℕ → Bool
+    s k = t (o + k)
+
 -- ---- what `all` returns, of a list and of the numbers below n
 
 -- a call of `all` or `any` that returns r: its test said `on` of the items ys, and then none was left, or it said `off` of the next

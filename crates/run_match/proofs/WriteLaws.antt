@@ -110,12 +110,16 @@ module _ {b used : List ℕ} {s : Lists} {m : Entry} {f : Filling} {lots : List 
   abbrev back : List ℕ → ℕ → List ℕ
   back part at = put_mid at (at + width - at) used part
 
-  pub lots-written : {at : ℕ} → at ≡ row_start m.deliverer → {b' part : List ℕ} {t : Lists} → WriteIssuesGives b (lent at) s m (lots_with f lots) b' part t
-      → WriteLotsGives b used s m f lots b' (set (back part at) (at + f.forced) (get_or (back part at) (at + f.forced) 0 - further)) t
-  lots-written start {b'} {part} {t} =
-      subst (λ (at : ℕ). WriteIssuesGives b (lent at) s m (lots_with f lots) b' part t
-      → WriteLotsGives b used s m f lots b' (set (back part at) (at + f.forced) (get_or (back part at) (at + f.forced) 0 - further)) t)
-      (sym start) row-written
+  pub lots-written : {at to : ℕ} → at ≡ row_start m.deliverer → to ≡ row_start m.deliverer → {b' part : List ℕ} {t : Lists}
+      → WriteIssuesGives b (lent at) s m (lots_with f lots) b' part t
+      → WriteLotsGives b used s m f lots b' (set (back part at) (to + f.forced) (get_or (back part at) (to + f.forced) 0 - further)) t
+  lots-written {at} start place {b'} {part} {t} =
+      subst (λ (to : ℕ). WriteIssuesGives b (lent at) s m (lots_with f lots) b' part t
+      → WriteLotsGives b used s m f lots b' (set (back part at) (to + f.forced) (get_or (back part at) (to + f.forced) 0 - further)) t)
+      (start ∙ sym place)
+      (subst (λ (row : ℕ). WriteIssuesGives b (lent row) s m (lots_with f lots) b' part t
+      → WriteLotsGives b used s m f lots b' (set (back part row) (row + f.forced) (get_or (back part row) (row + f.forced) 0 - further)) t)
+      (sym start) row-written)
 
 -- ---- the match after its lots
 

@@ -127,7 +127,7 @@ fn write_lots(
     let at = layout::row_start(m.deliverer);
     let end = at + lots.len();
     issues::write_issues(book, &mut used[at..end], lists, m, &*lots);
-    let place = at + forced;
+    let place = layout::row_start(m.deliverer) + forced;
     used[place] = used[place] - further.0;
 }
 

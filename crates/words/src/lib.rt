@@ -6,9 +6,11 @@ ghost use Rattle.std.specs.List.{All};
 ghost use Rattle.std.specs.Str.Parse.{IsNumeral, digits_value};
 ghost use Rattle.words.specs.Words.{words_between};
 
+mod few;
 mod line;
 mod unread;
 
+pub use few::fill_words;
 pub use line::{Line, read_number};
 use std::alloc::{AllocError, Global};
 pub use unread::{Found, Unread};
@@ -40,4 +42,28 @@ pub fn number(word: &[u8]) -> Option<u64>
         return None;
     }
     word.parse().ok()
+}
+
+#[cfg(test)]
+mod tests {
+    use super::*;
+    use std::test::Fail;
+
+    #[test]
+    fn words_between_blanks(rt: HostRuntime) -> Result<(), Fail> {
+        let words = split(rt.alloc(), b"\tno  end\r", b" \t\r")?;
+        let expected = vec![in rt.alloc(); b"no".as_slice(), b"end".as_slice()]?;
+        assert_eq!(rt; words, expected);
+        Ok(())
+    }
+
+    #[test]
+    fn numbers_of_a_line(rt: HostRuntime) -> Result<(), Fail> {
+        let words = [b"7".as_slice(), b"012".as_slice()];
+        let line = Line::new(&words);
+        let numbers = line.numbers(rt.alloc(), "number").ok();
+        let expected = vec![in rt.alloc(); 7u64, 12]?;
+        assert!(rt; numbers == Some(expected));
+        Ok(())
+    }
 }

@@ -6,6 +6,7 @@ ghost use Rattle.std.specs.Str.Parse.{IsNumeral, digits_value};
 ghost use Rattle.words.specs.Lines.{words_left, IsNumber, Takes, LacksFirst, SaysTooLarge};
 
 use crate::unread::{Found, Unread};
+use arrayvec::ArrayVec;
 use std::alloc::Global;
 
 // The words that are not read yet.
@@ -90,6 +91,23 @@ impl<'a> Line<'a> {
             numbers.push(read_number(*word, what)?)?;
         }
         Ok(numbers)
+    }
+
+    // The same, into a list with room for them: they stand in place of what it had.
+    pub fn fill_numbers<const N: usize>(
+        &self,
+        numbers: &mut ArrayVec<u64, N>,
+        what: &'static str,
+    ) -> Result<(), Unread<'a>>
+        requires { length self.now.words.now ≤ N }
+        ensures value { OnOk result (numbers.new.items ≡ map (λ word. digits_value 10 word.now) self.now.words.now) }
+        ensures right { OnOk result (All (λ word. IsNumber word.now) self.now.words.now) }
+    {
+        numbers.clear();
+        for word in self.words {
+            numbers.push(read_number(*word, what)?);
+        }
+        Ok(())
     }
 
     // There is room for the words that are left.

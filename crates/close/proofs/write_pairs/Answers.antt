@@ -13,14 +13,14 @@ pub loop-k-preserved : goal.loop-k-preserved
 loop-k-preserved c =
     let marks = c.marks.ensures in
     let r = covered-room _ _ c.requires _ _ marks.size c.loop-k.invariant.size c.loop-k-test.true in
-    covered_more _ _ c.requires marks.cells c.loop-k-test.true c.loop-k.invariant _ (lent-back _ _ _ _ _ _ _ _ r _ refl _ c.copy_to.ensures)
+    covered_more _ _ c.requires marks.cells c.loop-k-test.true c.loop-k.invariant _ (lent-back _ _ _ _ _ _ _ _ r _ refl _ c.write_square.ensures)
 
-pub copy_to-requires : goal.copy_to-requires
-copy_to-requires c = lent-to _ _ _ _ _ _ _ _ (covered-room _ _ c.requires _ _ c.marks.ensures.size c.loop-k.invariant.size c.loop-k-test.true)
+pub write_square-requires-clause-room : goal.write_square-requires-clause-room
+write_square-requires-clause-room c = lent-to _ _ _ _ _ _ _ _ (covered-room _ _ c.requires _ _ c.marks.ensures.size c.loop-k.invariant.size c.loop-k-test.true)
 
-pub invariant_of-marks : goal.invariant_of-marks
-invariant_of-marks c =
-    record { there = lent-from _ _ _ _ _ _ _ _ (covered-room _ _ c.requires _ _ c.marks.ensures.size c.loop-k.invariant.size c.loop-k-test.true) _ refl }
+pub write_square-requires-clause-there : goal.write_square-requires-clause-there
+write_square-requires-clause-there c =
+    lent-from _ _ _ _ _ _ _ _ (covered-room _ _ c.requires _ _ c.marks.ensures.size c.loop-k.invariant.size c.loop-k-test.true) _ refl
 
 pub returns : goal.returns
 returns c = covered-all _ _ c.requires (omega arith) c.loop-k.invariant

@@ -1,5 +1,6 @@
 -- `opening::open` meets its contract. Assumes nothing.
-use Rattle.std.proofs.Common.{List, ℕ, length, ap, ◌∙◌, arith, mul-le-mul}
+use Rattle.std.proofs.Common.{List, ℕ, length, sym, ap, ◌∙◌, arith, mul-le-mul, length-take-le}
+use lib.Seq.{take_at}
 use Rattle.rule.proofs.SoundLaws.{sizes-of}
 use Rattle.opening.proofs.OpenLaws.{wrong-sizes, wrong-codes, wrong-terms, wrong-receipts, wrong-pairs, wrong-book, lengths, right-lengths}
 use Rattle.lists.proofs.TestLaws.{said-no, said-yes}
@@ -39,18 +40,25 @@ returns-then-pairs-n c = wrong-pairs _ _ _ _ _ _ _ (said-yes _ _ c.sizes_fit.ens
 pub returns-then-book-ne-LENGTH : goal.returns-then-book-ne-LENGTH
 returns-then-book-ne-LENGTH c = wrong-book _ _ _ _ _ _ _ (said-yes _ _ c.sizes_fit.ensures c.if-not-sizes_fit.false) (omega arith) (omega arith) (omega arith) (omega arith) (λ e. omega arith)
 
+pub slice_bounds-cells-end : goal.slice_bounds-cells-end
+slice_bounds-cells-end c = omega (arith, (sizes-of _ _ (said-yes _ _ c.sizes_fit.ensures c.if-not-sizes_fit.false)).most)
+
+pub slice_bounds-widen-end : goal.slice_bounds-widen-end
+slice_bounds-widen-end c = sym (length-take-le _ _ (omega (arith, (sizes-of _ _ (said-yes _ _ c.sizes_fit.ensures c.if-not-sizes_fit.false)).most)))
+
 pub widen-requires : goal.widen-requires
-widen-requires c = (c.new-cells.ensures, omega (arith, (sizes-of _ _ (said-yes _ _ c.sizes_fit.ensures c.if-not-sizes_fit.false)).most))
+widen-requires c = length-take-le _ _ (omega (arith, (sizes-of _ _ (said-yes _ _ c.sizes_fit.ensures c.if-not-sizes_fit.false)).most))
 
 pub invariant_of-given : goal.invariant_of-given
 invariant_of-given c =
     record {
       lengths = lengths _ _ _ _ _ _ c.args.book.now (said-yes _ _ c.sizes_fit.ensures c.if-not-sizes_fit.false)
-          (ap length (c.as_slice.ensures.value ∙ c.widen.ensures) ∙ c.if-codes-m.false) (omega arith) (omega arith) (omega arith) (omega arith);
+          (ap length (take_at _ _ _ (ap length c.widen.ensures) ∙ c.widen.ensures) ∙ c.if-codes-m.false) (omega arith) (omega arith) (omega arith) (omega arith);
     }
 
 pub returns : goal.returns
 returns c =
     let a = c.args in
     right-lengths _ _ _ _ _ _ _ (said-yes _ _ c.sizes_fit.ensures c.if-not-sizes_fit.false) (omega arith) (omega arith) (omega arith) (omega arith) (omega arith) _
-    (c.enter.ensures ∙ ap (λ (codes : List ℕ). open_lengths a.participants a.issues codes a.terms.now a.receipts.now a.pairs.now a.book.now) (c.as_slice.ensures.value ∙ c.widen.ensures))
+    (c.enter.ensures ∙ ap (λ (codes : List ℕ). open_lengths a.participants a.issues codes a.terms.now a.receipts.now a.pairs.now a.book.now)
+    (take_at _ _ _ (ap length c.widen.ensures) ∙ c.widen.ensures))

@@ -21,9 +21,9 @@ noticed g c reply called = record {
   parts = c.in_ok-participant.ensures.read.parts;
   read = c.in_ok-participant.ensures.read.right.0;
   codes = codes_in c.codes_in_book-codes.result;
-  issues = c.in_ok-issues.issues.items;
-  lots = c.in_ok-issues.lots.items;
-  named = c.in_ok-issues.ensures;
+  issues = c.fill_entries.new.issues.items;
+  lots = c.fill_entries.new.lots.items;
+  named = c.in_ok-fill_entries.ensures;
   called =
       noticed-with reply c.args.book.now c.notice.new.book _ _ _ _ _ _ called
       (sym c.in_ok-participant.ensures.read.right.1) c.as_slice.ensures.value c.as_slice-2.ensures.value;

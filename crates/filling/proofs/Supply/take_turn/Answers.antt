@@ -7,5 +7,5 @@ invariant_of-standing c = record { part = c.requires.part _ }
 
 pub returns : goal.returns
 returns c = λ t a.
-    let turned = c.in_ok-turn.ensures t (a.quoted _) in
+    let turned = c.in-Some.ensures t (a.quoted _) in
     record { cells = ap (λ (n : ℕ). set c.args.lots.now c.args.i n) turned.lots; worth = turned.worth }

@@ -21,8 +21,8 @@ loop-row-init c = (
   gathered_none _ _,
 )
 
-pub slice_bounds-bits_of-end : goal.slice_bounds-bits_of-end
-slice_bounds-bits_of-end c =
+pub slice_bounds-bits_of_row-end : goal.slice_bounds-bits_of_row-end
+slice_bounds-bits_of_row-end c =
     let s = c.args.self.now in
     let next = MatchOption-at_some _ _ _ c.in-Some.is c.next.ensures.steps.1 in
     sym (length-take-le s.n c.in-Some.row.now (omega (arith, next.1, c.loop-row.invariant.2, s.rows.wide)))
@@ -44,7 +44,7 @@ loop-row-preserved c =
       p + 1,
       left-more _ _ _ some s.rows.size _ _ w.1 _ _ next.0 long,
       c.next.ensures.steps.0 ∙ w.2,
-      gathered-more w.3 left (bits_below c.loop-row.bits c.bits_of-bits.result 1 ∙ ap (λ (r : Bool). leb c.loop-row.bits 1 && r) (c.bits_of-bits.ensures ∙ passes)),
+      gathered-more w.3 left (bits_below c.loop-row.bits c.bits_of_row-bits.result 1 ∙ ap (λ (r : Bool). leb c.loop-row.bits 1 && r) (c.bits_of_row-bits.ensures ∙ passes)),
     )
 
 pub returns : goal.returns
