@@ -8,8 +8,8 @@ use words::{Found, Line, Unread};
 // the first words that there are
 const CALLS: &str = "day, issue, receipt, pair, open, trade, notice, run, close or show";
 
-// the words that a line has room for, more than its call takes: of a line with more the first ones say what is wrong
-const WORDS: usize = 72;
+// The words of a line that are looked at, more than any call takes: the first one too many is among them.
+const WORDS: usize = day_lines::ROOM + 8;
 
 // what stands between words
 const BLANKS: &[u8] = b" \t\r";
@@ -68,7 +68,7 @@ impl Day {
         Some(answer)
     }
 
-    // "one call to a line". Not inlined: each empty line would take a run's room on the stack.
+    // "one call to a line". Not inlined into `answer`: an empty line would take the stack that a run takes.
     #[inline(never)]
     fn answer_text(&mut self, rt: &impl Print, number: u64, text: &[u8]) -> io::Result<()> {
         let mut words = ArrayVec::<&[u8], WORDS>::new();

@@ -18,16 +18,16 @@ use words::Unread;
 // the bytes that a line has room for
 const ROOM: usize = 4096;
 
-// What has come of a line.
+// A line whose end has not come yet.
 #[derive(Drop)]
-struct Begun {
+struct BegunLine {
     number: u64,
     bytes: ArrayVec<u8, ROOM>,
     // more has come than there is room for
     over: bool,
 }
 
-impl Begun {
+impl BegunLine {
     fn append(&mut self, piece: &[u8]) {
         if self.bytes.try_extend_from_slice(piece).is_err() {
             self.over = true;
@@ -64,7 +64,7 @@ impl Begun {
 // A day from a book of zeros: the lines of a source, to its end or to a read that fails.
 fn run_day<S: Read + Drop>(rt: &HostRuntime, mut source: S) {
     let mut day = Day::new();
-    let mut line = Begun {
+    let mut line = BegunLine {
         number: 1,
         bytes: ArrayVec::new(),
         over: false,

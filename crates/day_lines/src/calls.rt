@@ -14,7 +14,7 @@ use quantities::Yen;
 use words::{Line, Unread};
 
 // the entries of a notice or the participants of a draw that there is room for, more than a day has
-const ROOM: usize = 64;
+pub const ROOM: usize = 64;
 
 // "open": makes the opening call.
 pub fn open<'a>(

@@ -5,5 +5,5 @@
 mod calls;
 mod failure;
 
-pub use calls::{close, notice, open, run, show, trade};
+pub use calls::{ROOM, close, notice, open, run, show, trade};
 pub use failure::Failure;

@@ -170,6 +170,7 @@ impl Supply<'_> {
             had: Lots(lots[i]),
             reached,
         };
+        // not by `?`: must-fail/ends_at_misfit changes this answer
         let Some(turn) = standing.next(pass, Lots(self.usable[i]), amount) else {
             return None;
         };

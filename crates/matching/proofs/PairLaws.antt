@@ -4,7 +4,7 @@ use mathlib.Core.Bool.{true}
 use mathlib.Core.List.{List, [], ◌∷◌, ◌++◌, map}
 use Prim.Native.Nat.{ℕ, suc, ◌+◌, ◌-◌, ◌*◌, ◌≤◌, ◌<◌}
 use native.Mathlib.Omega.{arith}
-use lib.ListN.{length, get_or, take, drop}
+use lib.ListN.{length, get_or}
 use lib.Dec.{eqb}
 use borrow.Author.Tests.{eq-eqb, ne_eqb}
 use Rattle.lists.specs.Tables.{from, up_to}
@@ -18,7 +18,7 @@ use Rattle.rule.specs.Matching.{meet, with, pairs_of, preferred, preferential}
 use Rattle.rule.specs.Matching as rule
 use Rattle.matching.specs.declared.Left.{Left}
 use Rattle.matching.specs.Plans.{left_of, SameBuffers, Room, MeetAsks, pair_marks, is_pair, meet_pairs, Sizes, MeetPairsOfAsks, MeetPreferentialAsks}
-use Rattle.matching.proofs.ListLaws.{from_first, with_all, part-at}
+use Rattle.matching.proofs.ListLaws.{from_first, with_all}
 use Rattle.matching.proofs.MeetLaws.{meets-none, meets-on, meets-room}
 
 pub same_still : {s t u : Left} → SameBuffers s t → SameBuffers t u → SameBuffers s u
@@ -47,11 +47,6 @@ is-mark : (marks : List ℕ) (n d r : ℕ) → d < n → r < n → is_pair marks
 is-mark marks n d r h k =
     let e : 0 + most_participants * d + r ≡ most_participants * d + r = omega arith in
     ap (λ (v : ℕ). eqb v 1) (rw e at (grid-get marks 0 most_participants n n d r h k))
-
--- a mark in the deliverer's row, which is lent as a slice of its own
-pub row-mark : (marks : List ℕ) (d n r : ℕ) → r < n
-    → get_or marks (most_participants * d + r) 0 ≡ get_or (take (most_participants * d + n - most_participants * d) (drop (most_participants * d) marks)) r 0
-row-mark marks d n r h = sym (part-at marks (most_participants * d) (most_participants * d + n - most_participants * d) r (omega arith))
 
 -- those left to meet lead to the whole
 pub record Row (marks : List ℕ) (d : ℕ) (s₀ s : Left) (r : ℕ) : Type 0 where

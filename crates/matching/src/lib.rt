@@ -71,14 +71,13 @@ impl Left<'_> {
         ensures left { left_of self.new ≡ meet_pairs marks.now (left_of self.old) (with (up_to (length self.old.owed.now)) d) }
         ensures same { SameBuffers self.old self.new }
     {
-        let from = layout::MOST_PARTICIPANTS * d;
-        let end = from + self.due.len();
-        for (r, mark) in marks[from..end].iter().enumerate() {
+        for r in 0..self.due.len() {
             if self.owed[d] == 0 {
                 break;
             }
+            let place = layout::MOST_PARTICIPANTS * d + r;
             // a mark is a number, as it stands in the book: a rule of the project
-            if *mark == 1 {
+            if marks[place] == 1 {
                 self.meet(true, d, r);
             }
         }

@@ -127,6 +127,7 @@ fn write_lots(
     let at = layout::row_start(m.deliverer);
     let end = at + lots.len();
     issues::write_issues(book, &mut used[at..end], lists, m, &*lots);
+    // by its row anew: must-fail/used_again and forced_used change one of the two alone
     let place = layout::row_start(m.deliverer) + forced;
     used[place] = used[place] - further.0;
 }

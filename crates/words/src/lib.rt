@@ -6,11 +6,11 @@ ghost use Rattle.std.specs.List.{All};
 ghost use Rattle.std.specs.Str.Parse.{IsNumeral, digits_value};
 ghost use Rattle.words.specs.Words.{words_between};
 
-mod few;
+mod fill;
 mod line;
 mod unread;
 
-pub use few::fill_words;
+pub use fill::fill_words;
 pub use line::{Line, read_number};
 use std::alloc::{AllocError, Global};
 pub use unread::{Found, Unread};

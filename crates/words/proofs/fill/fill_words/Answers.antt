@@ -8,7 +8,7 @@ use Rattle.std.proofs.lemmas.Iterator.{YieldsList, YieldsList-from_take}
 use Rattle.std.proofs.lemmas.Iterator.Consumers.{YieldsList-at, YieldsList-turn, YieldsList-end, YieldsList-from_filter}
 use Rattle.std.proofs.lemmas.Iterator.Splits.{YieldsList-from_slice_split}
 use borrow.Author.Tests.{tests}
-use Rattle.words.proofs.few.fill_words.Goals as goal
+use Rattle.words.proofs.fill.fill_words.Goals as goal
 
 -- what an empty list of room n is extended to by a chain of at most n
 all_come : {S A B E : Type 0} {steps : S → Option A → S → Type 0} {v : A → B} {s : S} (all : List B) (n : ℕ) (r : Result (Unit {0}) E) (old new : List A) → old ≡ []
