@@ -1,5 +1,6 @@
 #!/usr/bin/env bash
-# Evidence from outside the proofs: the C interface, and the library held to a reference that was written from document 01 alone.
+# Evidence from outside the proofs: the C interface, the library held to a reference that was written from document 01 alone, and the
+# programs where their output fails.
 # A line for each part; any difference, fault or missing part ends it with a failure. SEED=n sets the seed of what is random.
 set -eu
 cd "$(dirname "$0")"
@@ -13,6 +14,7 @@ archive
 mkdir -p ../target
 gcc -std=c11 -O2 -Wall -Wextra -Wpedantic -Werror -I ../include c/day.c ../crates/c_api/out/libc_api.a -o ../target/day
 ../target/day
+./lost_writes.sh
 
 cargo build --offline --release --quiet
 built=target/release

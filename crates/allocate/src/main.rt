@@ -106,8 +106,9 @@ fn run_argument(rt: &HostRuntime, name: &[u8]) -> io::Result<()> {
             Err(error) => eprintln!(rt; "{path}: {error}"),
         },
         Err(_) => {
-            rt.stderr().write_all(name)?;
-            eprintln!(rt; ": a file's name has to be UTF-8")
+            let named = rt.stderr().write_all(name);
+            let told = eprintln!(rt; ": a file's name has to be UTF-8");
+            named.and(told)
         }
     }
 }

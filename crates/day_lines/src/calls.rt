@@ -108,13 +108,14 @@ pub fn run<'a>(rt: &impl Print, book: &mut [u64], line: Line<'a>) -> Result<(), 
     let mut matches = [0u64; layout::MATCH * layout::MOST_MATCHES];
     let mut lines = [0u64; layout::LINE * layout::MOST_LINES];
     let counts = allocation::run(book, draw.as_slice(), &mut matches, &mut lines)?;
-    println!(rt; "ran {} {}", counts.matches, counts.lines)?;
+    let ran = println!(rt; "ran {} {}", counts.matches, counts.lines);
     let codes = codes_in_book(book);
     let codes = Codes { bytes: &codes };
     let matches = matches.as_chunks().0;
     let lines = lines.as_chunks().0;
-    listing::matches(rt, &codes, &matches[..matches.len().min(counts.matches)])?;
-    listing::lines(rt, &codes, &lines[..lines.len().min(counts.lines)])?;
+    let matched = listing::matches(rt, &codes, &matches[..matches.len().min(counts.matches)]);
+    let listed = listing::lines(rt, &codes, &lines[..lines.len().min(counts.lines)]);
+    ran.and(matched).and(listed)?;
     Ok(())
 }
 
@@ -127,17 +128,19 @@ pub fn close<'a>(rt: &impl Print, book: &[u64], line: Line<'a>) -> Result<(), Fa
     let mut receipts = [0u64; opening_data::RECEIPTS];
     let mut pairs = [0u64; opening_data::PAIRS];
     allocation::close(book, &mut receipts, &mut pairs)?;
-    println!(rt; "closed")?;
+    let closed = println!(rt; "closed");
     let participants = book[layout::PARTICIPANTS] as usize;
     let issues = book[layout::ISSUES] as usize;
     // a day that is closed has both
     if participants == 0 || issues == 0 {
+        closed?;
         return Ok(());
     }
     let codes = codes_in_book(book);
     let codes = Codes { bytes: &codes };
-    listing::holdings(rt, "receipt", &codes, &receipts, issues)?;
-    listing::pairs(rt, "pair", &pairs, participants)?;
+    let received = listing::holdings(rt, "receipt", &codes, &receipts, issues);
+    let paired = listing::pairs(rt, "pair", &pairs, participants);
+    closed.and(received).and(paired)?;
     Ok(())
 }
 
@@ -155,11 +158,16 @@ pub fn show<'a>(rt: &impl Print, book: &[u64], line: Line<'a>) -> Result<(), Fai
     let notices = &book[layout::NOTICES..layout::TODAY];
     let today = &book[layout::TODAY..layout::TALLY];
     let tally = &book[layout::TALLY..layout::LENGTH];
-    println!(rt; "runs {}", book[layout::RUNS])?;
-    println!(rt; "trades {}", book[layout::TRADES])?;
-    listing::positions(rt, book)?;
-    listing::holdings(rt, "notified", &codes, notices, MOST_ISSUES)?;
-    listing::holdings(rt, "tally", &codes, tally, MOST_ISSUES)?;
-    listing::pairs(rt, "paired", today, MOST_PARTICIPANTS)?;
+    let runs = println!(rt; "runs {}", book[layout::RUNS]);
+    let trades = println!(rt; "trades {}", book[layout::TRADES]);
+    let positions = listing::positions(rt, book);
+    let notified = listing::holdings(rt, "notified", &codes, notices, MOST_ISSUES);
+    let tallied = listing::holdings(rt, "tally", &codes, tally, MOST_ISSUES);
+    let paired = listing::pairs(rt, "paired", today, MOST_PARTICIPANTS);
+    runs.and(trades)
+        .and(positions)
+        .and(notified)
+        .and(tallied)
+        .and(paired)?;
     Ok(())
 }

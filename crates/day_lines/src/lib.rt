@@ -1,5 +1,5 @@
-// The lines of a day file that make a call: each function reads the words of one, makes the call, and writes its answer with the
-// records under it. The comments quote docs/DAYFILE.md.
+// The lines of a day file that make a call: each function reads the words of one, makes the call, and writes its answer and the
+// records under it. A line that cannot be written does not stop the next ones. The comments quote docs/DAYFILE.md.
 #![tactic(auto)]
 
 mod calls;

@@ -4,58 +4,62 @@
 
 ghost use Rattle.std.specs.Prelude.{◌<◌, ◌≤◌};
 
-use std::io::{self, Write};
+// A piece of a line. What cannot be written is lost, the next piece is written all the same, and the status does not tell, as in
+// `allocate`.
+fn write(rt: &impl Print, piece: &[u8]) {
+    let _ = rt.write_all(piece);
+}
 
 // The word if the test holds, else a dash.
-fn said(word: &str, holds: bool) -> &str {
-    if holds { word } else { "-" }
+fn say(rt: &impl Print, word: &[u8], holds: bool) {
+    write(rt, if holds { word } else { b" -" });
 }
 
-fn say_of(out: &mut impl Write, code: &[u64]) -> io::Result<()> {
-    let isin = said("isin", isin::is_isin(code));
-    let of_issue = said("code", isin::is_code(code));
-    writeln!(out, " {isin} {of_issue}")
+fn say_of(rt: &impl Print, code: &[u64]) {
+    say(rt, b" isin", isin::is_isin(code));
+    say(rt, b" code", isin::is_code(code));
+    write(rt, b"\n");
 }
 
-fn one<const N: usize>(out: &mut impl Write, text: &[u8; N]) -> io::Result<()>
+fn one<const N: usize>(rt: &impl Print, text: &[u8; N])
     requires { N ≤ 24 }
 {
-    out.write_all(text)?;
-    say_of(out, &text.map(u64::from))
+    write(rt, text);
+    say_of(rt, &text.map(u64::from));
 }
 
-fn each(out: &mut impl Write, codes: &[&[u8; 12]]) -> io::Result<()> {
+fn each(rt: &impl Print, codes: &[&[u8; 12]]) {
     for code in codes {
-        one(out, code)?;
+        one(rt, code);
     }
-    Ok(())
 }
 
 // A code in which one cell is another number than a byte.
-fn with_cell(out: &mut impl Write, text: &[u8; 12], at: usize, value: u64) -> io::Result<()>
+fn with_cell(rt: &impl Print, text: &[u8; 12], at: usize, value: u64)
     requires { at < 12 }
 {
     let mut code = text.map(u64::from);
     code[at] = value;
-    out.write_all(text)?;
-    write!(out, " with {value}")?;
-    say_of(out, &code)
+    write(rt, text);
+    write(rt, b" with ");
+    let _ = print!(rt; "{value}");
+    say_of(rt, &code);
 }
 
-fn two(out: &mut impl Write, a: &[u8; 12], b: &[u8; 12]) -> io::Result<()> {
+fn two(rt: &impl Print, a: &[u8; 12], b: &[u8; 12]) {
     let codes = [a.map(u64::from), b.map(u64::from)];
-    let before = said("before", isin::stands_before(&codes[0], &codes[1]));
-    let right = said("right", isin::codes_right(codes.as_flattened()));
-    out.write_all(a)?;
-    out.write_all(b" ")?;
-    out.write_all(b)?;
-    writeln!(out, " {before} {right}")
+    write(rt, a);
+    write(rt, b" ");
+    write(rt, b);
+    say(rt, b" before", isin::stands_before(&codes[0], &codes[1]));
+    say(rt, b" right", isin::codes_right(codes.as_flattened()));
+    write(rt, b"\n");
 }
 
-fn tell_all(out: &mut impl Write) -> io::Result<()> {
+fn tell_all(rt: &impl Print) {
     // Apple, Microsoft, BAE Systems, SAP, TotalEnergies, Nestle, Treasury Corporation of Victoria
     each(
-        out,
+        rt,
         &[
             b"US0378331005",
             b"US5949181045",
@@ -65,10 +69,10 @@ fn tell_all(out: &mut impl Write) -> io::Result<()> {
             b"CH0038863350",
             b"AU0000XVGZA3",
         ],
-    )?;
+    );
     // Barrick, Heineken, Santander, Ericsson, Eni, Samsung
     each(
-        out,
+        rt,
         &[
             b"CA0679011084",
             b"NL0000009165",
@@ -77,10 +81,10 @@ fn tell_all(out: &mut impl Write) -> io::Result<()> {
             b"IT0003132476",
             b"KR7005930003",
         ],
-    )?;
+    );
     // Toyota, Sony, Mitsubishi UFJ, Nintendo, SoftBank, Hitachi; the codes of the paper's worked days, right and wrong
     each(
-        out,
+        rt,
         &[
             b"JP3633400001",
             b"JP3435000009",
@@ -89,11 +93,11 @@ fn tell_all(out: &mut impl Write) -> io::Result<()> {
             b"JP3436100006",
             b"JP3788600009",
         ],
-    )?;
-    each(out, &[b"JP0000000018", b"JP0000000026", b"JP0000000019"])?;
+    );
+    each(rt, &[b"JP0000000018", b"JP0000000026", b"JP0000000019"]);
     // every other check digit, and a letter for it that would fill the sum
     each(
-        out,
+        rt,
         &[
             b"JP3633400000",
             b"JP3633400002",
@@ -101,9 +105,9 @@ fn tell_all(out: &mut impl Write) -> io::Result<()> {
             b"JP3633400004",
             b"JP3633400005",
         ],
-    )?;
+    );
     each(
-        out,
+        rt,
         &[
             b"JP3633400006",
             b"JP3633400007",
@@ -111,12 +115,12 @@ fn tell_all(out: &mut impl Write) -> io::Result<()> {
             b"JP3633400009",
             b"JP363340000G",
         ],
-    )?;
+    );
     // two digits in the other order: the check digit sees it, save for 9 and 0
-    each(out, &[b"JP6333400001", b"US0373831005", b"JP3092900004"])?;
+    each(rt, &[b"JP6333400001", b"US0373831005", b"JP3092900004"]);
     // a byte that is no digit and no capital, the letter O for the digit 0
     each(
-        out,
+        rt,
         &[
             b"AU0000xVGZA3",
             b"JP36334 0001",
@@ -127,10 +131,10 @@ fn tell_all(out: &mut impl Write) -> io::Result<()> {
             b"JP36334\xb00001",
             b"JP36334O0001",
         ],
-    )?;
+    );
     // a country that is none, or another
     each(
-        out,
+        rt,
         &[
             b"jp3633400001",
             b"Jp3633400001",
@@ -140,31 +144,29 @@ fn tell_all(out: &mut impl Write) -> io::Result<()> {
             b"KP3633400008",
             b"PJ3633400001",
         ],
-    )?;
+    );
     // another length
-    one(out, b"JP363340000")?;
-    one(out, b"JP36334000016")?;
-    one(out, b"J")?;
-    one(out, b"")?;
+    one(rt, b"JP363340000");
+    one(rt, b"JP36334000016");
+    one(rt, b"J");
+    one(rt, b"");
     // cells that are no bytes: 256 more than a character, and the largest
-    with_cell(out, b"JP3633400001", 0, 330)?;
-    with_cell(out, b"JP3633400001", 4, 307)?;
-    with_cell(out, b"JP3633400001", 11, 305)?;
-    with_cell(out, b"JP3633400001", 7, 18446744073709551615)?;
-    with_cell(out, b"JP3633400001", 11, 18446744073709551615)?;
+    with_cell(rt, b"JP3633400001", 0, 330);
+    with_cell(rt, b"JP3633400001", 4, 307);
+    with_cell(rt, b"JP3633400001", 11, 305);
+    with_cell(rt, b"JP3633400001", 7, 18446744073709551615);
+    with_cell(rt, b"JP3633400001", 11, 18446744073709551615);
     // equal, rising, falling, another last byte, one of the two no code
-    two(out, b"JP3633400001", b"JP3633400001")?;
-    two(out, b"JP3435000009", b"JP3633400001")?;
-    two(out, b"JP3633400001", b"JP3435000009")?;
-    two(out, b"JP0000000018", b"JP0000000026")?;
-    two(out, b"JP3633400001", b"JP3633400002")?;
-    two(out, b"JP3633400002", b"JP3633400001")?;
-    two(out, b"DE0007164600", b"JP3633400001")?;
-    two(out, b"JP3633400001", b"US0378331005")?;
-    Ok(())
+    two(rt, b"JP3633400001", b"JP3633400001");
+    two(rt, b"JP3435000009", b"JP3633400001");
+    two(rt, b"JP3633400001", b"JP3435000009");
+    two(rt, b"JP0000000018", b"JP0000000026");
+    two(rt, b"JP3633400001", b"JP3633400002");
+    two(rt, b"JP3633400002", b"JP3633400001");
+    two(rt, b"DE0007164600", b"JP3633400001");
+    two(rt, b"JP3633400001", b"US0378331005");
 }
 
 fn main(rt: HostRuntime) {
-    // what cannot be written is lost, and the status does not tell, as in `allocate`
-    let _ = tell_all(&mut io::writer(&rt));
+    tell_all(&rt);
 }
